@@ -1,0 +1,4 @@
+pub mod Places
+pub mod Puncts
+pub mod Faults
+pub mod Floats
