@@ -1,0 +1,4 @@
+pub mod Spans
+pub mod Places
+pub mod Tank
+pub mod Marks
