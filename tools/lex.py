@@ -43,7 +43,7 @@ DIGITS = string.digits
 HEX_DIGITS = string.hexdigits
 NAME_START = string.ascii_letters + "_"
 NAME_REST = NAME_START + string.digits
-# What is left over after it: hexadecimal letters, or an exponent without digits.
+# A float not of this form has hexadecimal letters or an exponent without digits.
 FLOAT_FORM = re.compile(r"([0-9]*)\.?([0-9]*)(?:e(?:(-)|\+)?([0-9]+))?")
 COMMENT = "\r"  # no other \r is left once line ends are joined
 WHITESPACE = " \t\x0b\x0c" + COMMENT

@@ -16,7 +16,10 @@ impl Meter {
     pub fn mark(&self) -> Mark
         ensures { λ r. ⌜ r ≡ marked (tank (now (self .entry))) ⌝ }
     {
-        Mark { working: self.working.len(), building: self.building.len() }
+        Mark {
+            working: self.working.len(),
+            building: self.building.len(),
+        }
     }
 }
 

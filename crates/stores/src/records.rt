@@ -11,6 +11,9 @@ ghost use Rattle.std.specs.Options.{Cases as BySome, mapped};
 ghost use Rattle.std.specs.Vec.{listOf};
 ghost use Rattle.std.specs.declared.option.Option.{Option};
 ghost use Rattle.stores.specs.Places.{bears, place, latest};
+ghost use Rattle.stores.specs.Idents.{identOf};
+use tokens::token::Token;
+use tokens::token::TokenValue;
 
 // A record that may be found by a name's number.
 pub trait Named {
@@ -18,6 +21,18 @@ pub trait Named {
 
     fn name(&self) -> Option<u32>
         ensures { λ r. ⌜ r ≡ key (now (self .entry)) ⌝ };
+}
+
+// A name token is found by its name.
+pub impl Named for Token as TokenNamed {
+    ghost key = { identOf };
+
+    fn name(&self) -> Option<u32> {
+        match self.value {
+            TokenValue::Ident(n) => Some(n),
+            _ => None,
+        }
+    }
 }
 
 fn bears(key: Option<u32>, name: u32) -> bool

@@ -20,5 +20,12 @@ pub fn no_span() -> Span
 pub fn onward(s: Span) -> Span
     ensures { λ r. ⌜ r ≡ onward s ⌝ }
 {
-    if s.from < s.to { Span { from: s.from + 1, to: s.to } } else { s }
+    if s.from < s.to {
+        Span {
+            from: s.from + 1,
+            to: s.to,
+        }
+    } else {
+        s
+    }
 }

@@ -23,7 +23,12 @@ impl Meter {
     {
         let working = Vec::with_capacity(heap, 2048)?;
         let building = Vec::with_capacity(heap, 2048)?;
-        Ok(Meter { moves: 0, budget, working, building })
+        Ok(Meter {
+            moves: 0,
+            budget,
+            working,
+            building,
+        })
     }
 
     // How many tokens are stored.
@@ -37,7 +42,11 @@ impl Meter {
     pub fn at(&self, i: usize) -> Option<Token>
         ensures { λ r. ⌜ r ≡ nth (vec-items (now (self .entry) .working)) i ⌝ }
     {
-        if i < self.working.len() { Some(self.working[i]) } else { None }
+        if i < self.working.len() {
+            Some(self.working[i])
+        } else {
+            None
+        }
     }
 
     // The token at the start of a part of the working store.
@@ -98,7 +107,10 @@ impl Meter {
         }
         let _ = self.working.extend_from_slice(&self.building[k..]);
         self.building.truncate(k);
-        Span { from, to: from + (n - k) }
+        Span {
+            from,
+            to: from + (n - k),
+        }
     }
 
     // All tokens are given back.

@@ -22,5 +22,9 @@ fn same_value(a: u32, b: u32) -> bool
 pub fn same_float(a: Float, b: Float) -> bool
     ensures { λ r. ⌜ r ≡ floatEqual a b ⌝ }
 {
-    if a.width == b.width { same_value(a.bits, b.bits) } else { false }
+    if a.width == b.width {
+        same_value(a.bits, b.bits)
+    } else {
+        false
+    }
 }

@@ -15,5 +15,9 @@ pub struct Location {
 pub fn default_location() -> Location
     ensures { λ r. ⌜ r ≡ origin ⌝ }
 {
-    Location { start: 0, end: 0, line: 1 }
+    Location {
+        start: 0,
+        end: 0,
+        line: 1,
+    }
 }
