@@ -5,3 +5,4 @@ pub mod lexer;
 pub mod location;
 pub mod punct;
 pub mod token;
+pub mod words;

@@ -1,0 +1,5 @@
+pub mod Delimiters
+pub mod Processor
+pub mod Arguments
+pub mod Phases
+pub mod Sane

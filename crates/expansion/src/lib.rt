@@ -1,0 +1,7 @@
+// Macro expansion as a machine of moves, over any feed.
+pub mod delimiter;
+pub mod invocation;
+pub mod moves;
+pub mod phases;
+pub mod processor;
+pub mod slots;
