@@ -5,3 +5,6 @@ pub mod Counts
 pub mod Places
 pub mod Lines
 pub mod Items
+pub mod Meets
+pub mod Fronts
+pub mod Motions

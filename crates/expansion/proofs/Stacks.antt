@@ -64,7 +64,7 @@ covers-top us u e f =
     at g w i l =
         ⊎-elim
         (λ s. let z : getD (topped us u) i blank ≡ u = subst (λ k. getD (topped us u) k blank ≡ u) (sym s) (getD-set-same us (length us - 1) u blank (omega arith)) in
-            ap g z ∙ w ∙ ap (λ k. g (getD us k blank)) (sym s))
+        ap g z ∙ w ∙ ap (λ k. g (getD us k blank)) (sym s))
         (λ s. ap g (getD-set-other us (length us - 1) i u blank s))
         (cases-eq i (length us - 1))
 
@@ -89,7 +89,8 @@ module _ (d : Defs) (us vs : List DefineInvocation) (c : Covers us vs) where
     apart = λ i j lt l e. s .apart i j lt (omega (arith, c .shorter)) (sym (c .names i (omega arith)) ∙ e ∙ c .names j l);
     bears = λ i l. let v = s .bears i (omega (arith, c .shorter)) in record {
       known = subst (λ k. k < length (d .table)) (sym (c .handles i l)) (v .known);
-      named = ap (λ k. mean d k .name) (c .handles i l) ∙ v .named ∙ sym (c .names i l) };
+      named = ap (λ k. mean d k .name) (c .handles i l) ∙ v .named ∙ sym (c .names i l);
+    };
     force = λ i z l. subst (λ k. InForce d k) (sym (c .names i l)) (s .force i z (omega (arith, c .shorter)));
     calls = λ i l. covered-free _ _ _ (w i l) (s .calls i l);
     within = w;
@@ -175,12 +176,13 @@ entered-sane d us bs u s f =
           ⊎-elim
           (λ inside. subst (λ x. InForce d (x .name)) (sym (old i inside)) (s .force i o inside))
           (λ last. let k : length us ≡ i = omega (arith, length-push us u) in
-              subst (λ x. InForce d (x .name)) (sym (getD-push us u blank i k)) (⊎-elim (λ x. x) (λ x. absurd (omega arith)) (f .force)))
+          subst (λ x. InForce d (x .name)) (sym (getD-push us u blank i k)) (⊎-elim (λ x. x) (λ x. absurd (omega arith)) (f .force)))
           (order i (length us));
       calls = λ i l. let c = s .calls i l in record {
         bears = c .bears;
         free = λ j w e. c .free j w (sym (ap (λ x. x .name) (old j (omega (arith, w, s .within i l)))) ∙ e);
-        force = c .force };
+        force = c .force;
+      };
       within = λ i l. omega (arith, s .within i l, length-push us u);
       rising = s .rising;
     }
@@ -199,8 +201,8 @@ waiting-sane d us bs q t s f =
           ⊎-elim
           (λ inside. subst (λ x. Free d us (x .end) (x .call .callee .handle) (x .call .callee .name)) (sym (old i inside)) (s .calls i inside))
           (λ last. let k : length bs ≡ i = omega (arith, length-push bs q) in
-              subst (λ x. Free d us (x .end) (x .call .callee .handle) (x .call .callee .name)) (sym (getD-push bs q idle i k))
-              (subst (λ e. Free d us e (q .call .callee .handle) (q .call .callee .name)) (sym t) f))
+          subst (λ x. Free d us (x .end) (x .call .callee .handle) (x .call .callee .name)) (sym (getD-push bs q idle i k))
+          (subst (λ e. Free d us e (q .call .callee .handle) (q .call .callee .name)) (sym t) f))
           (order i (length bs));
       within = λ i l.
           ⊎-elim
@@ -211,10 +213,10 @@ waiting-sane d us bs q t s f =
           ⊎-elim
           (λ inside. let a = ap (λ x. x .end) (old i (omega arith)) in let b = ap (λ x. x .end) (old j inside) in omega (arith, a, b, s .rising i j lt inside))
           (λ last.
-              let k : length bs ≡ j = omega (arith, length-push bs q) in
-              let a = ap (λ x. x .end) (old i (omega arith)) in
-              let b = ap (λ x. x .end) (getD-push bs q idle j k) in
-              omega (arith, a, b, s .within i (omega arith), t))
+          let k : length bs ≡ j = omega (arith, length-push bs q) in
+          let a = ap (λ x. x .end) (old i (omega arith)) in
+          let b = ap (λ x. x .end) (getD-push bs q idle j k) in
+          omega (arith, a, b, s .within i (omega arith), t))
           (order j (length bs));
     }
   where

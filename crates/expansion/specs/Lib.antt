@@ -3,3 +3,4 @@ pub mod Processor
 pub mod Arguments
 pub mod Phases
 pub mod Sane
+pub mod Moved

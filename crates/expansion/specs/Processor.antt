@@ -6,7 +6,7 @@ use Prim.Native.Nat.{ℕ, _-_}
 use mathlib.Core.Bool.{Bool, cond}
 use mathlib.Core.List.{List, [], _∷_}
 use lib.Dec.{eqb, ltb}
-use lib.ListN.{length, getD, replicate, set}
+use lib.ListN.{length, getD, set}
 use Rattle.std.specs.declared.option.Option.{Option}
 use Rattle.std.specs.declared.option.Option.the-variants.{Some, None}
 use Rattle.std.specs.declared.result.Result.{Result}
@@ -89,5 +89,6 @@ expanding p = ltb (base (p .below)) (length (p .uses))
 abbrev pub named : Callee → Token
 named w = record { value = Ident (w .name); location = w .location }
 
-abbrev pub fresh : Proc
-fresh = record { phase = Plain; input = nowhere; start = 0; line = 0; below = []; uses = []; spans = replicate 16960 nowhere }
+-- nothing is in expansion and nothing is held back; what the slots of arguments hold is of no account
+abbrev pub fresh : List Span → Proc
+fresh gs = record { phase = Plain; input = nowhere; start = 0; line = 0; below = []; uses = []; spans = gs }

@@ -1,7 +1,10 @@
 // Macro expansion as a machine of moves, over any feed.
 pub mod delimiter;
 pub mod invocation;
+pub mod look;
 pub mod moves;
 pub mod phases;
 pub mod processor;
+pub mod setup;
 pub mod slots;
+pub mod step;

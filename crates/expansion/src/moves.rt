@@ -8,10 +8,10 @@ ghost use Rattle.stores.specs.Idents.{identOf};
 ghost use Rattle.books.specs.Book.{mean};
 ghost use Rattle.expansion.specs.Processor.{view, top};
 ghost use Rattle.expansion.specs.Phases.{inArg, byWord, inBody, inUse, inInput, Read};
-use books::Book;
-use books::Handle;
 use crate::invocation::DefineInvocation;
 use crate::processor::MacroProcessor;
+use books::Book;
+use books::Handle;
 use stores::meter::Meter;
 use stores::span::Span;
 use stores::span::onward;
@@ -52,7 +52,12 @@ impl MacroProcessor {
             TokenValue::Ident(name) => match book.parameter(u.handle, name) {
                 Some(i) => {
                     let reading = Some(self.argument(n - 1, i));
-                    self.invocations[n - 1] = DefineInvocation { name: u.name, handle: u.handle, at, reading };
+                    self.invocations[n - 1] = DefineInvocation {
+                        name: u.name,
+                        handle: u.handle,
+                        at,
+                        reading,
+                    };
                     Err(StepExit::Continue)
                 }
                 None => {

@@ -9,8 +9,6 @@ ghost use Rattle.expansion.specs.Processor.{view, base, expanding, fault};
 ghost use Rattle.expansion.specs.Phases.{barred, starting, quiet, entered, passed, begun, parted, split, reached, opened, descended, bare, counted, closed, storing, gathered, returned, finished, holding, spent, meeting, Made};
 ghost use Rattle.expansion.specs.Sane.{Sane, Placed};
 ghost use Rattle.expansion.specs.Delimiters.{delimits};
-use books::Book;
-use books::Handle;
 use crate::delimiter::Delimiter;
 use crate::delimiter::delimiter_of;
 use crate::invocation::Call;
@@ -19,6 +17,8 @@ use crate::invocation::DefineInvocation;
 use crate::invocation::Pending;
 use crate::invocation::Phase;
 use crate::processor::MacroProcessor;
+use books::Book;
+use books::Handle;
 use stores::meter::Meter;
 use stores::records::Named;
 use stores::records::find;
@@ -43,7 +43,12 @@ pub impl Named for DefineInvocation as DefineInvocationNamed {
 pub fn fail(error: PreprocessorError, location: Location) -> Step<Token>
     ensures { λ r. ⌜ r ≡ fault error location ⌝ }
 {
-    Err(StepExit::Error(Fault { error, location, layer: Layer::Expansion, directive: None }))
+    Err(StepExit::Error(Fault {
+        error,
+        location,
+        layer: Layer::Expansion,
+        directive: None,
+    }))
 }
 
 // The current argument is whole: it ends at the mark.
@@ -51,19 +56,40 @@ fn split(c: Call, location: Location, mark: usize) -> Call
     ensures { λ r. ⌜ r ≡ split c location mark ⌝ }
 {
     let count = if c.count < 33 { c.count + 1 } else { 33 };
-    Call { callee: c.callee, paren: c.paren, last: location, nesting: c.nesting, from: mark, count }
+    Call {
+        callee: c.callee,
+        paren: c.paren,
+        last: location,
+        nesting: c.nesting,
+        from: mark,
+        count,
+    }
 }
 
 fn reached(c: Call, nesting: u32, location: Location) -> Call
     ensures { λ r. ⌜ r ≡ reached c nesting location ⌝ }
 {
-    Call { callee: c.callee, paren: c.paren, last: location, nesting, from: c.from, count: c.count }
+    Call {
+        callee: c.callee,
+        paren: c.paren,
+        last: location,
+        nesting,
+        from: c.from,
+        count: c.count,
+    }
 }
 
 fn opened(callee: Callee, location: Location, from: usize) -> Call
     ensures { λ r. ⌜ r ≡ opened callee location from ⌝ }
 {
-    Call { callee, paren: location, last: location, nesting: 0, from, count: 0 }
+    Call {
+        callee,
+        paren: location,
+        last: location,
+        nesting: 0,
+        from,
+        count: 0,
+    }
 }
 
 // Moves spent is never held back.
@@ -108,7 +134,11 @@ impl MacroProcessor {
     fn quiet(&self) -> Option<Step<Token>>
         ensures { λ r. ⌜ r ≡ quiet (vec-items (now (self .entry) .below)) ⌝ }
     {
-        if self.below.len() == 0 { Some(Err(StepExit::Continue)) } else { None }
+        if self.below.len() == 0 {
+            Some(Err(StepExit::Continue))
+        } else {
+            None
+        }
     }
 
     // The macro goes on the stack, with the first `count` arguments of this level's call.
@@ -120,7 +150,12 @@ impl MacroProcessor {
         let slot = self.call_slot();
         let place = self.invocations.len();
         self.copy_arguments(slot, place, count);
-        self.invocations.push_reserved(DefineInvocation { name, handle, at: 0, reading: None });
+        self.invocations.push_reserved(DefineInvocation {
+            name,
+            handle,
+            at: 0,
+            reading: None,
+        });
         self.phase = Phase::Plain;
         self.quiet()
     }
@@ -132,11 +167,21 @@ impl MacroProcessor {
         if self.below.len() == 0 {
             return Some(Ok(x));
         }
-        if meter.build(x) { None } else { Some(fail(PreprocessorError::WorkingTokensFull, x.location)) }
+        if meter.build(x) {
+            None
+        } else {
+            Some(fail(PreprocessorError::WorkingTokensFull, x.location))
+        }
     }
 
     // A name is met: it starts an expansion, may be a call, or passes.
-    pub fn begin<B: Book>(&mut self, x: Token, name: u32, book: &B, meter: &mut Meter) -> Option<Step<Token>>
+    pub fn begin<B: Book>(
+        &mut self,
+        x: Token,
+        name: u32,
+        book: &B,
+        meter: &mut Meter,
+    ) -> Option<Step<Token>>
         requires { ⌜ Sane (B·Book .defs (now book)) (vec-items (now self .invocations)) (vec-items (now self .below)) ⌝ }
         ensures { λ r. ⌜ Made (begun (B·Book .defs (now (book .entry))) (view (now (self .entry))) (tank (now (meter .entry))) x name) r (view (now (self .exit))) (tank (now (meter .exit))) ⌝ }
     {
@@ -148,7 +193,11 @@ impl MacroProcessor {
         };
         self.note_line(x.location.line);
         if book.is_function(handle) {
-            self.phase = Phase::Met(Callee { name, handle, location: x.location });
+            self.phase = Phase::Met(Callee {
+                name,
+                handle,
+                location: x.location,
+            });
             return None;
         }
         self.enter(name, handle, 0)
@@ -164,7 +213,14 @@ impl MacroProcessor {
         let slot = self.call_slot();
         let part = self.argument(slot, next);
         let end = self.invocations.len();
-        self.below.push_reserved(Pending { call, next, input: self.input, start: self.start, line: self.line, end });
+        self.below.push_reserved(Pending {
+            call,
+            next,
+            input: self.input,
+            start: self.start,
+            line: self.line,
+            end,
+        });
         self.phase = Phase::Plain;
         self.input = part;
         self.start = meter.building.len();
@@ -207,17 +263,34 @@ impl MacroProcessor {
         ensures { λ _. ⌜ view (now (self .exit)) ≡ parted (view (now (self .entry))) call mark ⌝ }
     {
         let slot = self.call_slot();
-        self.set_argument(slot, call.count, Span { from: call.from, to: mark });
+        self.set_argument(
+            slot,
+            call.count,
+            Span {
+                from: call.from,
+                to: mark,
+            },
+        );
     }
 
     // The call's own `)`.
-    fn close<B: Book>(&mut self, call: Call, location: Location, book: &B, meter: &Meter) -> Option<Step<Token>>
+    fn close<B: Book>(
+        &mut self,
+        call: Call,
+        location: Location,
+        book: &B,
+        meter: &Meter,
+    ) -> Option<Step<Token>>
         ensures { λ r. ⌜ Made (closed (B·Book .defs (now (book .entry))) (view (now (self .entry))) (tank (now (meter .entry))) call location) r (view (now (self .exit))) (tank (now (meter .entry))) ⌝ }
     {
         let mark = meter.working.len();
         self.part(call, mark);
         self.note_line(location.line);
-        self.count(split(call, location, mark), book.arity(call.callee.handle), meter)
+        self.count(
+            split(call, location, mark),
+            book.arity(call.callee.handle),
+            meter,
+        )
     }
 
     // A token of an argument is stored.
@@ -235,7 +308,13 @@ impl MacroProcessor {
 
 impl MacroProcessor {
     // A token of a call's arguments.
-    fn gather<B: Book>(&mut self, call: Call, x: Token, book: &B, meter: &mut Meter) -> Option<Step<Token>>
+    fn gather<B: Book>(
+        &mut self,
+        call: Call,
+        x: Token,
+        book: &B,
+        meter: &mut Meter,
+    ) -> Option<Step<Token>>
         ensures { λ r. ⌜ Made (gathered (delimits (x .value)) (B·Book .defs (now (book .entry))) (view (now (self .entry))) (tank (now (meter .entry))) call x) r (view (now (self .exit))) (tank (now (meter .exit))) ⌝ }
     {
         match delimiter_of(x.value) {
@@ -302,11 +381,22 @@ impl MacroProcessor {
         ensures { λ r. ⌜ Made (holding (view (now (self .entry))) (tank (now (meter .entry))) callee step) r (view (now (self .exit))) (tank (now (meter .exit))) ⌝ }
     {
         self.phase = Phase::Held(step);
-        self.pass(Token { value: TokenValue::Ident(callee.name), location: callee.location }, meter)
+        self.pass(
+            Token {
+                value: TokenValue::Ident(callee.name),
+                location: callee.location,
+            },
+            meter,
+        )
     }
 
     // One match on what the processor is doing and what it meets.
-    pub fn meet<B: Book>(&mut self, met: Step<Token>, book: &B, meter: &mut Meter) -> Option<Step<Token>>
+    pub fn meet<B: Book>(
+        &mut self,
+        met: Step<Token>,
+        book: &B,
+        meter: &mut Meter,
+    ) -> Option<Step<Token>>
         requires { ⌜ Sane (B·Book .defs (now book)) (vec-items (now self .invocations)) (vec-items (now self .below)) ⌝ }
         ensures { λ r. ⌜ Made (meeting (now (self .entry) .phase) met (B·Book .defs (now (book .entry))) (view (now (self .entry))) (tank (now (meter .entry)))) r (view (now (self .exit))) (tank (now (meter .exit))) ⌝ }
     {
@@ -327,7 +417,11 @@ impl MacroProcessor {
                 _ => self.hold(callee, Ok(x), meter),
             },
             (Phase::Met(_), Err(StepExit::Continue)) => None,
-            (Phase::Met(callee), Err(StepExit::Finished)) => self.hold(callee, Err(StepExit::Finished), meter),
+            (Phase::Met(callee), Err(StepExit::Finished)) => self.hold(
+                callee,
+                Err(StepExit::Finished),
+                meter,
+            ),
             (Phase::Met(callee), Err(StepExit::Error(f))) => {
                 if is_spent(f.error) {
                     Some(Err(StepExit::Error(f)))
@@ -337,7 +431,10 @@ impl MacroProcessor {
             }
             (Phase::Gather(call), Ok(x)) => self.gather(call, x, book, meter),
             (Phase::Gather(_), Err(StepExit::Continue)) => None,
-            (Phase::Gather(call), Err(StepExit::Finished)) => Some(fail(PreprocessorError::UnexpectedEndOfInput, call.last)),
+            (Phase::Gather(call), Err(StepExit::Finished)) => Some(fail(
+                PreprocessorError::UnexpectedEndOfInput,
+                call.last,
+            )),
             (Phase::Gather(_), Err(StepExit::Error(f))) => Some(Err(StepExit::Error(f))),
             (Phase::Held(_), _) => None,
         }

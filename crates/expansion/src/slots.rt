@@ -25,7 +25,11 @@ impl MacroProcessor {
         ensures { λ r. ⌜ r ≡ argAt (vec-items (now (self .entry) .arguments)) slot i ⌝ }
     {
         if i < 32 {
-            if slot < SLOTS { self.arguments[slot * 32 + i] } else { no_span() }
+            if slot < SLOTS {
+                self.arguments[slot * 32 + i]
+            } else {
+                no_span()
+            }
         } else {
             no_span()
         }
