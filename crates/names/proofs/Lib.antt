@@ -1,0 +1,4 @@
+pub mod Tables
+pub mod Cuts
+pub mod Sizes
+pub mod Numbers
