@@ -1,0 +1,2 @@
+// Where tokens come from: the caller's records, or the bytes of a token file.
+pub mod source;
