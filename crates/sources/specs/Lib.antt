@@ -1,1 +1,3 @@
 pub mod Source
+pub mod Mending
+pub mod Recorded
