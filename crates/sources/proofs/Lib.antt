@@ -1,1 +1,3 @@
 pub mod Reading
+pub mod Decoding
+pub mod Laws

@@ -1,3 +1,6 @@
 pub mod Source
 pub mod Mending
 pub mod Recorded
+pub mod Bytes
+pub mod Fields
+pub mod Filed

@@ -1,0 +1,5 @@
+// The source over a token file.
+pub mod raw;
+mod bytes;
+mod fields;
+mod laws;
