@@ -1,3 +1,4 @@
 pub mod Reading
 pub mod Decoding
 pub mod Laws
+pub mod Lengths

@@ -3,4 +3,5 @@ pub mod Mending
 pub mod Recorded
 pub mod Bytes
 pub mod Fields
+pub mod Contents
 pub mod Filed

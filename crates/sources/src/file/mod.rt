@@ -1,5 +1,6 @@
 // The source over a token file.
 pub mod raw;
 mod bytes;
+pub mod parts;
 mod fields;
 mod laws;
