@@ -2,3 +2,4 @@ pub mod Tables
 pub mod Cuts
 pub mod Sizes
 pub mod Numbers
+pub mod Growth

@@ -2,3 +2,4 @@ pub mod Reading
 pub mod Decoding
 pub mod Laws
 pub mod Lengths
+pub mod Numbering

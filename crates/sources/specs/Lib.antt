@@ -4,4 +4,5 @@ pub mod Recorded
 pub mod Bytes
 pub mod Fields
 pub mod Contents
+pub mod Entering
 pub mod Filed

@@ -2,5 +2,6 @@
 pub mod raw;
 mod bytes;
 pub mod parts;
+mod entering;
 mod fields;
 mod laws;
