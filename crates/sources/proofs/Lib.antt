@@ -3,3 +3,4 @@ pub mod Decoding
 pub mod Laws
 pub mod Lengths
 pub mod Numbering
+pub mod Filing

@@ -6,3 +6,4 @@ pub mod Fields
 pub mod Contents
 pub mod Entering
 pub mod Filed
+pub mod FileSource

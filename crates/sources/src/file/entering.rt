@@ -13,7 +13,12 @@ use std::alloc::Global;
 use tokens::fault::Refusal;
 
 // The numbers of the names that stand one after another in `text`.
-fn number_names(heap: Global, table: &mut Names, lengths: &[u8], text: &[u8]) -> Result<Vec<u32>, Refusal>
+fn number_names(
+    heap: Global,
+    table: &mut Names,
+    lengths: &[u8],
+    text: &[u8],
+) -> Result<Vec<u32>, Refusal>
     requires { ⌜ total (lensOf (now lengths)) ≤ length (now text) ⌝ }
     ensures value { λ r. ⌜ Numbered r (numbersOf (names (now (table .entry))) (cut (lensOf (now (lengths .entry))) (now (text .entry)))) ⌝ }
     ensures entered { λ r. ⌜ (isOk r ≡ true → names (now (table .exit)) ≡ tableAfter (names (now (table .entry))) (cut (lensOf (now (lengths .entry))) (now (text .entry)))) ⌝ }
@@ -34,7 +39,12 @@ fn number_names(heap: Global, table: &mut Names, lengths: &[u8], text: &[u8]) ->
 }
 
 // The same, and a refusal leaves the table as it was.
-pub(crate) fn enter_names(heap: Global, table: &mut Names, lengths: &[u8], text: &[u8]) -> Result<Vec<u32>, Refusal>
+pub(crate) fn enter_names(
+    heap: Global,
+    table: &mut Names,
+    lengths: &[u8],
+    text: &[u8],
+) -> Result<Vec<u32>, Refusal>
     requires { ⌜ total (lensOf (now lengths)) ≤ length (now text) ⌝ }
     ensures value { λ r. ⌜ Numbered r (numbersOf (names (now (table .entry))) (cut (lensOf (now (lengths .entry))) (now (text .entry)))) ⌝ }
     ensures entered { λ r. ⌜ names (now (table .exit)) ≡ cond (isOk r) (tableAfter (names (now (table .entry))) (cut (lensOf (now (lengths .entry))) (now (text .entry)))) (names (now (table .entry))) ⌝ }

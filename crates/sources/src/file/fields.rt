@@ -21,8 +21,15 @@ fn value_of(raw: Raw, names: u32) -> Option<LexerTokenValue>
     let plain = raw.marks < 8 && raw.width == 0;
     match raw.kind {
         0 if plain && raw.value < names as u64 => Some(LexerTokenValue::Ident(raw.value as u32)),
-        1 if raw.marks < 16 => Some(LexerTokenValue::Integer(Integer { value: raw.value, signed: raw.marks >= 8, width: raw.width })),
-        2 if raw.marks < 8 && raw.value < 0x1_0000_0000 => Some(LexerTokenValue::Float(Float { bits: raw.value as u32, width: raw.width })),
+        1 if raw.marks < 16 => Some(LexerTokenValue::Integer(Integer {
+            value: raw.value,
+            signed: raw.marks >= 8,
+            width: raw.width,
+        })),
+        2 if raw.marks < 8 && raw.value < 0x1_0000_0000 => Some(LexerTokenValue::Float(Float {
+            bits: raw.value as u32,
+            width: raw.width,
+        })),
         3 if plain && raw.value < 45 => Some(LexerTokenValue::Punct(punct_of(raw.value as u8)?)),
         4 if plain && raw.value == 0 => Some(LexerTokenValue::Hash),
         5 if plain && raw.value == 0 => Some(LexerTokenValue::NewLine),
@@ -36,7 +43,11 @@ fn token_of(raw: Raw, names: u32) -> Option<LexerToken>
     let value = value_of(raw, names)?;
     Some(LexerToken {
         value,
-        location: Location { start: raw.start, end: raw.end, line: raw.line },
+        location: Location {
+            start: raw.start,
+            end: raw.end,
+            line: raw.line,
+        },
         leading_whitespace: raw.marks % 2 == 1,
         start_of_line: raw.marks / 2 % 2 == 1,
         had_comments: raw.marks / 4 % 2 == 1,

@@ -8,6 +8,7 @@ ghost use Rattle.sources.specs.Bytes.{four};
 ghost use Rattle.sources.specs.Contents.{lensOf, total, fit, allFit, shaped, lengthBytes, textBytes, recordBytes};
 use super::bytes::u16_at;
 
+#[derive(Clone, Copy)]
 pub struct Parts<'a> {
     // how many names there are
     pub names: u32,
@@ -79,5 +80,10 @@ pub(crate) fn parts_of(bytes: &[u8]) -> Option<Parts<'_>>
         return None;
     }
     let (text, records) = bodies.split_at(sum);
-    Some(Parts { names, lengths, text, records })
+    Some(Parts {
+        names,
+        lengths,
+        text,
+        records,
+    })
 }

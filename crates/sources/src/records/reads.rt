@@ -57,7 +57,11 @@ fn missing_line_end(last: Option<LexerToken>, closing: Closing) -> Option<LexerT
     }
     Some(LexerToken {
         value: LexerTokenValue::NewLine,
-        location: Location { start: token.location.end, end: token.location.end, line: token.location.line },
+        location: Location {
+            start: token.location.end,
+            end: token.location.end,
+            line: token.location.line,
+        },
         leading_whitespace: false,
         start_of_line: false,
         had_comments: token.had_comments,
@@ -68,7 +72,12 @@ impl<'a> Records<'a> {
     pub fn new(items: &'a [LexerToken], closing: Closing) -> Records<'a>
         ensures { λ r. ⌜ meant r ≡ record { rest = mended None closing (now (items .entry)); closing = closing; seen = false; fresh = true } ⌝ }
     {
-        Records { items, at: 0, closing, last: None }
+        Records {
+            items,
+            at: 0,
+            closing,
+            last: None,
+        }
     }
 }
 
