@@ -1,0 +1,5 @@
+pub mod Tables
+pub mod Cuts
+pub mod Sizes
+pub mod Numbers
+pub mod Growth

@@ -1,0 +1,5 @@
+// Where tokens come from: the caller's records, or the bytes of a token file.
+pub mod file;
+pub mod line;
+pub mod records;
+pub mod source;
