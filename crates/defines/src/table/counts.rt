@@ -26,7 +26,7 @@ impl Defines {
         ensures { λ r. ⌜ r ≡ live (held (now (self .entry)) .table) ⌝ }
     {
         let mut n = 0;
-        for d in self.table.iter() {
+        for d in self.table.as_slice() {
             if d.in_force {
                 n += 1;
             }

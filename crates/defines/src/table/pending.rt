@@ -117,9 +117,13 @@ impl Defines {
         ensures { λ r. ⌜ r ≡ legal (mean (held (now (self .entry))) handle) «function_like» (parameters (now (self .entry))) (replacement (now (self .entry))) ⌝ }
     {
         let previous = self.define(handle);
-        previous.function_like == function_like
-            && same_tokens(self.part(previous.params), &self.kept[self.mark..self.body])
-            && same_tokens(self.part(previous.tokens), &self.kept[self.body..])
+        if previous.function_like != function_like {
+            return false;
+        }
+        if !same_tokens(self.part(previous.params), &self.kept[self.mark..self.body]) {
+            return false;
+        }
+        same_tokens(self.part(previous.tokens), &self.kept[self.body..])
     }
 
     // What was read becomes the tokens of a passed directive, for ever.

@@ -1,0 +1,7 @@
+use mathlib.Core.Path.{sym, _∙_}
+use Rattle.std.specs.Of.Vec.{vec-items}
+use Rattle.defines.specs.Entries.{entries-len}
+use Rattle.defines.proofs.table.Defines.accepted.Needs as need
+
+pub returns : need.returns
+returns c = let s = c .args .self .now in c .len .ensures ∙ s .table .ok .0 ∙ sym (entries-len (vec-items (s .kept)) (vec-items (s .table)))
