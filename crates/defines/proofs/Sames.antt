@@ -1,13 +1,13 @@
 -- Two token lists are compared place by place.
 use Prim.Native.Nat.{ℕ, zero, suc, _+_, _-_, _<_, _≤_}
 use mathlib.Core.Path.{_≡_, refl, sym, ap, _∙_}
-use mathlib.Core.Bool.{Bool, true, false, cond}
+use mathlib.Core.Bool.{Bool, true, false, cond, not, Bool·beq}
 use mathlib.Core.List.{List, [], _∷_}
 use native.Mathlib.Omega.{arith}
 use lib.ListN.{length, getD, drop}
 use Rattle.std.proofs.shelf.Lists.{at-drop-more, at-drop-all}
 use Rattle.tokens.specs.declared.token.Token.{Token}
-use Rattle.defines.specs.Values.{sameBool, sameValue, sameTokens, legal}
+use Rattle.defines.specs.Values.{sameValue, sameTokens, legal}
 use Rattle.books.specs.Book.{Definition}
 
 never : (b : Bool) → cond b false false ≡ false
@@ -41,23 +41,19 @@ module _ (d : Definition) (f : Bool) (ps b : List Token) where
   abbrev lists : Bool
   lists = cond (sameTokens (d .params) ps) bodies false
 
-  pub other-kind : sameBool (d .function) f ≡ false → false ≡ legal d f ps b
+  pub other-kind : Bool·beq (d .function) f ≡ false → false ≡ legal d f ps b
   other-kind k = sym (ap (λ t. cond t lists false) k)
 
-  pub other-params : sameBool (d .function) f ≡ true → sameTokens (d .params) ps ≡ false → false ≡ legal d f ps b
+  pub other-params : Bool·beq (d .function) f ≡ true → sameTokens (d .params) ps ≡ false → false ≡ legal d f ps b
   other-params k p = sym (ap (λ t. cond t lists false) k ∙ ap (λ t. cond t bodies false) p)
 
-  pub by-body : sameBool (d .function) f ≡ true → sameTokens (d .params) ps ≡ true → bodies ≡ legal d f ps b
+  pub by-body : Bool·beq (d .function) f ≡ true → sameTokens (d .params) ps ≡ true → bodies ≡ legal d f ps b
   by-body k p = sym (ap (λ t. cond t lists false) k ∙ ap (λ t. cond t bodies false) p)
 
-pub same-bool : (a b : Bool) → a ≡ b → sameBool a b ≡ true
-same-bool true true e = refl
-same-bool true false e = sym e
-same-bool false true e = e
-same-bool false false e = refl
+pub is-false : (b : Bool) → not b ≡ true → b ≡ false
+is-false true e = sym e
+is-false false e = refl
 
-pub other-bool : (a b : Bool) → (a ≡ b → ⊥) → sameBool a b ≡ false
-other-bool true true n = absurd (n refl)
-other-bool true false n = refl
-other-bool false true n = refl
-other-bool false false n = absurd (n refl)
+pub is-true : (b : Bool) → not b ≡ false → b ≡ true
+is-true true e = refl
+is-true false e = sym e

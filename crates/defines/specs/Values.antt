@@ -3,7 +3,7 @@
 -- sameTokens xs ys: as many tokens with equal values, wherever they stand
 -- legal d f ps b: a definition with this kind, these parameters and this body may be given again for d
 use Prim.Native.Nat.{ℕ}
-use mathlib.Core.Bool.{Bool, true, false, cond}
+use mathlib.Core.Bool.{Bool, true, false, cond, Bool·beq}
 use mathlib.Core.List.{List, [], _∷_}
 use lib.Dec.{eqb}
 use Rattle.tokens.specs.declared.token.Token.{Token}
@@ -16,13 +16,8 @@ use Rattle.tokens.specs.Floats.{floatEqual}
 use Rattle.tokens.specs.Puncts.{numbered}
 use Rattle.books.specs.Book.{Definition}
 
-abbrev pub sameBool : Bool → Bool → Bool
-sameBool true b = b
-sameBool false true = false
-sameBool false false = true
-
 abbrev pub sameInteger : IntegerT → IntegerT → Bool
-sameInteger x y = cond (eqb (x .value) (y .value)) (cond (sameBool (x .signed) (y .signed)) (eqb (x .width) (y .width)) false) false
+sameInteger x y = cond (eqb (x .value) (y .value)) (cond (Bool·beq (x .signed) (y .signed)) (eqb (x .width) (y .width)) false) false
 
 abbrev pub asIdent : ℕ → TokenValue → Bool
 asIdent m (Ident n) = eqb m n
@@ -76,4 +71,4 @@ sameTokens (x ∷ xs) [] = false
 sameTokens (x ∷ xs) (y ∷ ys) = cond (sameValue (x .value) (y .value)) (sameTokens xs ys) false
 
 abbrev pub legal : Definition → Bool → List Token → List Token → Bool
-legal d f ps b = cond (sameBool (d .function) f) (cond (sameTokens (d .params) ps) (sameTokens (d .body) b) false) false
+legal d f ps b = cond (Bool·beq (d .function) f) (cond (sameTokens (d .params) ps) (sameTokens (d .body) b) false) false

@@ -10,9 +10,10 @@ ghost-self c =
     let s = c .args .self .now in
     let end = c .len-end .ensures in
     let pushed = c .push-reserved .ensures in
-    let w = entered-within (vec-items (s .kept)) (vec-items (s .table)) _ (s .mark) (c .len-end .result) (omega (arith, s .ordered, s .inside)) (omega (arith, s .ordered, s .inside), omega (arith, s .slim), omega (arith, s .inside)) (s .within) in
-    let o = entered-once (vec-items (s .kept)) (vec-items (s .table)) _ (c .pre .free) (s .once) in
-    (s .room, (omega (arith, pushed .capacity, s .spaces), (s .small, (omega (arith, pushed .len), (omega arith, (omega (arith, end), (omega arith, (subst (Within (c .len-end .result)) (sym (pushed .items)) w, (subst Once (sym (pushed .items)) o, tt)))))))))
+    let table = vec-items (c .push-reserved .last .self) in
+    let w : Within (c .len-end .result) table = subst (Within (c .len-end .result)) (sym (pushed .items)) (entered-within (vec-items (s .kept)) (vec-items (s .table)) _ (s .mark) (c .len-end .result) (omega (arith, s .ordered, s .inside)) (omega (arith, s .ordered, s .inside), omega (arith, s .slim), omega (arith, s .inside)) (s .within)) in
+    let o : Once table = subst Once (sym (pushed .items)) (entered-once (vec-items (s .kept)) (vec-items (s .table)) _ (c .pre .free) (s .once)) in
+    (s .room, (omega (arith, pushed .capacity, s .spaces), (s .small, (omega (arith, pushed .len), (omega arith, (omega (arith, end), (omega arith, (w, (o, tt)))))))))
 
 pub returns : need.returns
 returns c =
