@@ -2,7 +2,7 @@
 ghost use mathlib.Core.Path.{_≡_};
 ghost use Rattle.defines.specs.Values.{sameInteger, sameValue, sameTokens};
 use tokens::float::same_float;
-use tokens::punct::number_of;
+use tokens::punct::same_punct;
 use tokens::token::Integer;
 use tokens::token::Token;
 use tokens::token::TokenValue;
@@ -21,7 +21,7 @@ pub fn same_value(a: TokenValue, b: TokenValue) -> bool
         (TokenValue::Ident(m), TokenValue::Ident(n)) => m == n,
         (TokenValue::Integer(x), TokenValue::Integer(y)) => same_integer(x, y),
         (TokenValue::Float(x), TokenValue::Float(y)) => same_float(x, y),
-        (TokenValue::Punct(p), TokenValue::Punct(q)) => number_of(p) == number_of(q),
+        (TokenValue::Punct(p), TokenValue::Punct(q)) => same_punct(p, q),
         _ => false,
     }
 }
