@@ -56,12 +56,12 @@ module _ (kept : List Token) (table : List Define) (h : ℕ) (l : h < length tab
       (at-place i)
 
 -- a definition that is entered
-module _ (kept : List Token) (table : List Define) (d : Define) where
-  pub entered-shelf : (mark body end : ℕ) (n : ℕ) (f : Bool) → end ≡ length kept → d ≡ record { name = n; «function_like» = f; params = record { start = mark; len = body - mark }; tokens = record { start = body; len = end - body }; «in_force» = true } → shelf kept (table ++ d ∷ []) ≡ entered (shelf kept table) (made n f (take (body - mark) (drop mark kept)) (drop body kept))
+module _ (kept : List Token) (table : List Define) (d : Define) (more : List Define) (pushed : more ≡ table ++ d ∷ []) where
+  pub entered-shelf : (mark body end : ℕ) (n : ℕ) (f : Bool) → end ≡ length kept → d ≡ record { name = n; «function_like» = f; params = record { start = mark; len = body - mark }; tokens = record { start = body; len = end - body }; «in_force» = true } → shelf kept more ≡ entered (shelf kept table) (made n f (take (body - mark) (drop mark kept)) (drop body kept))
   entered-shelf mark body end n f z e =
       let rest : take (end - body) (drop body kept) ≡ drop body kept = ap (λ m. take (m - body) (drop body kept)) z ∙ take-rest kept body in
       let own : entry kept d ≡ made n f (take (body - mark) (drop mark kept)) (drop body kept) = ap (entry kept) e ∙ ap (made n f (take (body - mark) (drop mark kept))) rest in
-      ap (λ es. record { table = es }) (map-append (entry kept) table (d ∷ []) ∙ ap (λ x. entries kept table ++ x ∷ []) own)
+      ap (shelf kept) pushed ∙ ap (λ es. record { table = es }) (map-append (entry kept) table (d ∷ []) ∙ ap (λ x. entries kept table ++ x ∷ []) own)
 
   at-end : (i : ℕ) → (getD (table ++ d ∷ []) i vacant ≡ getD table i vacant) ⊎ ((i ≡ length table) × (getD (table ++ d ∷ []) i vacant ≡ d))
   at-end i =
@@ -76,17 +76,17 @@ module _ (kept : List Token) (table : List Define) (d : Define) where
       beyond : (i : ℕ) → length table ≤ i → (i ≡ length table → ⊥) → length (table ++ d ∷ []) ≤ i
       beyond i l e = omega (arith, length-push table d)
 
-  pub entered-within : (mark end : ℕ) → mark ≤ end → Lies end d → Within mark table → Within end (table ++ d ∷ [])
-  entered-within mark end m own w i =
+  pub entered-within : (mark end : ℕ) → mark ≤ end → Lies end d → Within mark table → Within end more
+  entered-within mark end m own w = subst (Within end) (sym pushed) (λ i.
       let u = w i in
       let old : Lies end (getD table i vacant) = (omega (arith, u .0), u .1, omega (arith, u .2)) in
       ⊎-elim
       (λ e. subst (Lies end) (sym e) old)
       (λ e. subst (Lies end) (sym (e .1)) own)
-      (at-end i)
+      (at-end i))
 
-  pub entered-once : find (shelf kept table) (d .name) ≡ None → Once table → Once (table ++ d ∷ [])
-  entered-once free o i j t =
+  pub entered-once : find (shelf kept table) (d .name) ≡ None → Once table → Once more
+  entered-once free o = subst Once (sym pushed) (λ i j t.
       let long = length-push table d in
       let before : i < length table = omega (arith, t .before, t .inside) in
       let p = getD-append-left table (d ∷ []) vacant i before in
@@ -101,4 +101,4 @@ module _ (kept : List Token) (table : List Define) (d : Define) where
       let live : getD table i vacant .«in_force» ≡ true = sym (ap (λ x. x .«in_force») p) ∙ t .first in
       let is : hit (entry kept (getD table i vacant)) (d .name) ≡ true = ap (λ b. cond b (eqb (getD table i vacant .name) (d .name)) false) live ∙ eq-eqb _ (d .name) same in
       seek-none (entries kept table) 0 (d .name) free i (omega (arith, entries-len kept table)) (ap (λ x. hit x (d .name)) (entry-at kept table i) ∙ is))
-      (order j (length table))
+      (order j (length table)))

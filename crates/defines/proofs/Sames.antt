@@ -4,8 +4,8 @@ use mathlib.Core.Path.{_≡_, refl, sym, ap, _∙_}
 use mathlib.Core.Bool.{Bool, true, false, cond, not, Bool·beq}
 use mathlib.Core.List.{List, [], _∷_}
 use native.Mathlib.Omega.{arith}
-use lib.ListN.{length, getD, drop}
-use Rattle.std.proofs.shelf.Lists.{at-drop-more, at-drop-all}
+use lib.ListN.{length, getD, take, drop}
+use Rattle.std.proofs.shelf.Lists.{at-drop-more, at-drop-all, take-rest}
 use Rattle.tokens.specs.declared.token.Token.{Token}
 use Rattle.defines.specs.Values.{sameValue, sameTokens, legal}
 use Rattle.books.specs.Book.{Definition}
@@ -32,6 +32,13 @@ module _ (xs ys : List Token) (i : ℕ) (inv : sameTokens (drop i xs) (drop i ys
 
   pub equal-all : length xs ≤ i → length ys ≤ i → true ≡ sameTokens xs ys
   equal-all a b = sym (at-drop-all (λ l. sameTokens l (drop i ys)) xs i a ∙ at-drop-all (λ l. sameTokens [] l) ys i b) ∙ inv
+
+-- the same of lists that are read from a store
+pub parts-told : (kept k p : List Token) (q : List Token) (start len : ℕ) (r : Bool) → p ≡ q → k ≡ kept → r ≡ sameTokens p (take len (drop start k)) → r ≡ sameTokens q (take len (drop start kept))
+parts-told kept k p q start len r a b e = cc
+
+pub rests-told : (kept k p : List Token) (q : List Token) (start : ℕ) (r : Bool) → p ≡ q → k ≡ kept → r ≡ sameTokens p (take (length k - start) (drop start k)) → r ≡ sameTokens q (drop start kept)
+rests-told kept k p q start r a b e = let all = take-rest kept start in cc
 
 -- a definition given again
 module _ (d : Definition) (f : Bool) (ps b : List Token) where

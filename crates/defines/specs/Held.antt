@@ -12,7 +12,7 @@ use Rattle.books.specs.Book.{Defs}
 use Rattle.defines.specs.Parts.{shelf}
 use Rattle.defines.specs.declared.table.Defines.{Defines}
 
-abbrev pub held : Defines → Defs
+unfoldable pub held : Defines → Defs
 held s = shelf (vec-items (s .kept)) (vec-items (s .table))
 
 abbrev pub settled : Defines → List Token

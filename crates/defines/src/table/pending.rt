@@ -11,6 +11,7 @@ ghost use Rattle.std.specs.Vec.{made};
 ghost use Rattle.stores.specs.Places.{place};
 ghost use Rattle.stores.specs.Idents.{identOf};
 ghost use Rattle.books.specs.Book.{mean};
+ghost use Rattle.defines.specs.Changes.{empty};
 ghost use Rattle.defines.specs.Parts.{partOf};
 ghost use Rattle.defines.specs.Held.{held, settled, parameters, replacement, pending};
 ghost use Rattle.defines.specs.Values.{legal};
@@ -32,7 +33,7 @@ pub const MAX_PARAMETERS: usize = 32;
 
 impl Defines {
     pub fn new(heap: Global) -> Result<Defines, AllocError>
-        ensures { λ r. ⌜ made r (λ s. (vec-items (s .kept) ≡ []) × (vec-items (s .table) ≡ []) × (s .mark ≡ 0) × (s .body ≡ 0)) ⌝ }
+        ensures { λ r. ⌜ made r (λ s. (held s ≡ empty) × (vec-items (s .kept) ≡ []) × (s .mark ≡ 0) × (s .body ≡ 0)) ⌝ }
     {
         let kept = Vec::with_capacity(heap, 2048)?;
         let table = Vec::with_capacity(heap, 512)?;

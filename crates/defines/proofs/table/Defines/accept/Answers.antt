@@ -15,6 +15,7 @@ use Rattle.defines.proofs.Removals.{without-len, grown-same, grown-is, grown-a
 use Rattle.defines.proofs.table.Defines.accept.Needs as need
 
 pub returns-then-len-ge-MAX-DEFINES : need.returns-then-len-ge-MAX-DEFINES
+unfolding held
 returns-then-len-ge-MAX-DEFINES c =
     let s = c .args .self .now in
     let z = c .give-back .last .self in
@@ -33,6 +34,7 @@ returns-then-len-ge-MAX-DEFINES c =
     }
 
 pub enter-requires : need.enter-requires
+unfolding held
 enter-requires c κs =
     let s = c .args .self .now in
     let u = c .undefine .last .self in
@@ -43,6 +45,7 @@ enter-requires c κs =
     }
 
 pub returns : need.returns
+unfolding held
 returns c =
     let s = c .args .self .now in
     let u = c .undefine .last .self in

@@ -3,9 +3,11 @@ use native.Mathlib.Omega.{arith}
 use borrow.Author.Needs.{needs}
 use Rattle.std.specs.Of.Vec.{vec-items}
 use Rattle.defines.proofs.Fronts.{same-pushed}
+use Rattle.defines.specs.Held.{held}
 use Rattle.defines.proofs.table.Defines.keep_parameter.Needs as need
 
 pub returns : need.returns
+unfolding held
 returns c =
     let s = c .args .self .now in
     record {

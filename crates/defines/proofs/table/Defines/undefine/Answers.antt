@@ -16,12 +16,14 @@ use Rattle.defines.proofs.Rows.{dulled, dulled-entries, dulled-within, dulled-
 use Rattle.defines.proofs.table.Defines.undefine.Needs as need
 
 pub index-mut-requires : need.index-mut-requires
+unfolding held
 index-mut-requires c κs =
     let s = c .args .self .now in
     let f = found (held s) (c .args .name) (c .in-Some .handle) (sym (c .find .ensures .value) ∙ c .in-Some .is) in
     omega (arith, f .0, entries-len (vec-items (s .kept)) (vec-items (s .table)), s .table .ok .0)
 
 pub ghost-self : need.ghost-self
+unfolding held
 ghost-self c =
     let s = c .args .self .now in
     let kept = vec-items (s .kept) in
@@ -34,6 +36,7 @@ ghost-self c =
     (s .room, (s .spaces, (s .small, (s .few, (s .ordered, (s .inside, (s .slim, (subst (Within (s .mark)) (sym same) (dulled-within kept table h l (s .mark) (s .within)), (subst Once (sym same) (dulled-once kept table h l (s .once)), tt)))))))))
 
 pub returns-in-Some : need.returns-in-Some
+unfolding held
 returns-in-Some c =
     let s = c .args .self .now in
     let kept = vec-items (s .kept) in
