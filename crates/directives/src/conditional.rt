@@ -1,0 +1,196 @@
+// `#if`, `#ifdef`, `#ifndef`, `#elif`, `#else`, `#endif` and `#line`.
+ghost use mathlib.Core.Path.{_≡_};
+ghost use Rattle.stores.specs.Tank.{tank, Grows, Spends};
+ghost use Rattle.defines.specs.Held.{held};
+use crate::processor::DirectiveProcessor;
+use books::Book;
+use defines::table::book::DefinesBook;
+use reading::blocks::DirectiveBlock;
+use reading::convert::fault;
+use sources::source::Source;
+use stores::guard::Guard;
+use stores::meter::Meter;
+use stores::span::Span;
+use tokens::fault::Fault;
+use tokens::fault::PreprocessorError;
+use tokens::fault::Step;
+use tokens::fault::StepExit;
+use tokens::location::Location;
+use tokens::token::Token;
+
+// The three ways to open a block.
+#[derive(Clone, Copy)]
+pub enum Opening {
+    If,
+    Ifdef,
+    Ifndef,
+}
+
+fn unexpected(token: Token) -> Fault {
+    fault(PreprocessorError::UnexpectedToken(token.value), token.location)
+}
+
+impl<S: Source> DirectiveProcessor<S> {
+    // Whether the gathered line holds; nothing may be left over.
+    fn evaluate_if_expression(&mut self, location: Location, line: Span, meter: &mut Meter) -> Result<bool, Fault>
+        ensures defs { λ _. ⌜ held (now (self .exit) .defines) ≡ held (now (self .entry) .defines) ⌝ }
+        ensures stores { λ _. ⌜ Grows (tank (now (meter .entry))) (tank (now (meter .exit))) ⌝ }
+    {
+        self.parser.begin(line, location, self.reader.last, true);
+        let value = self.parser.evaluate_expression(&self.defines, meter)?;
+        match self.parser.peek(&self.defines, meter)? {
+            Some(token) => Err(unexpected(token)),
+            None => Ok(value != 0),
+        }
+    }
+
+    // The rest of the line as a condition; what it took of the working store is given back.
+    fn condition(&mut self, location: Location, meter: &mut Meter) -> Step<bool>
+        ensures defs { λ _. ⌜ held (now (self .exit) .defines) ≡ held (now (self .entry) .defines) ⌝ }
+        ensures stores { λ _. ⌜ Spends (tank (now (meter .entry))) (tank (now (meter .exit))) ⌝ }
+    {
+        let mark = meter.mark();
+        let guard = Guard { meter, mark };
+        let line = self.reader.gather_until_newline(guard.meter)?;
+        match self.evaluate_if_expression(location, line, guard.meter) {
+            Ok(holds) => Ok(holds),
+            Err(f) => Err(StepExit::Error(f)),
+        }
+    }
+
+    // Whether the name behind `#ifdef` or `#ifndef` is in force.
+    fn is_defined(&mut self, location: Location) -> Step<bool>
+        ensures { λ _. ⌜ held (now (self .exit) .defines) ≡ held (now (self .entry) .defines) ⌝ }
+    {
+        let (name, name_location) = self.reader.expect_lexer_ident(location)?;
+        self.reader.expect_newline(name_location)?;
+        match self.defines.find(name) {
+            Some(_) => Ok(true),
+            None => Ok(false),
+        }
+    }
+
+    fn opens(&mut self, opening: Opening, location: Location, meter: &mut Meter) -> Step<bool>
+        ensures defs { λ _. ⌜ held (now (self .exit) .defines) ≡ held (now (self .entry) .defines) ⌝ }
+        ensures stores { λ _. ⌜ Spends (tank (now (meter .entry))) (tank (now (meter .exit))) ⌝ }
+    {
+        match opening {
+            Opening::If => self.condition(location, meter),
+            Opening::Ifdef => self.is_defined(location),
+            Opening::Ifndef => Ok(!self.is_defined(location)?),
+        }
+    }
+
+    fn begin_block(&mut self, block: DirectiveBlock, skipping: bool) -> Step<()>
+        ensures { λ _. ⌜ held (now (self .exit) .defines) ≡ held (now (self .entry) .defines) ⌝ }
+    {
+        if self.blocks.begin(block, skipping) {
+            Ok(())
+        } else {
+            Err(StepExit::Error(fault(PreprocessorError::TooManyBlocks, block.start_location)))
+        }
+    }
+
+    // In dead text a block is only counted; in live text its condition is worked out first.
+    pub fn parse_if_like_directive(&mut self, opening: Opening, directive_location: Location, meter: &mut Meter) -> Step<()>
+        ensures defs { λ _. ⌜ held (now (self .exit) .defines) ≡ held (now (self .entry) .defines) ⌝ }
+        ensures stores { λ _. ⌜ Spends (tank (now (meter .entry))) (tank (now (meter .exit))) ⌝ }
+    {
+        if self.blocks.skipping {
+            self.begin_block(
+                DirectiveBlock { start_location: directive_location, had_valid_segment: false, had_else: false, outer_skipped: true },
+                true,
+            )?;
+            return self.reader.consume_until_newline();
+        }
+        let holds = self.opens(opening, directive_location, meter)?;
+        self.begin_block(
+            DirectiveBlock { start_location: directive_location, had_valid_segment: holds, had_else: false, outer_skipped: false },
+            !holds,
+        )
+    }
+
+    // The structure is tested even in dead text; the condition only where it is needed.
+    pub fn parse_elif_directive(&mut self, directive_location: Location, meter: &mut Meter) -> Step<()>
+        ensures defs { λ _. ⌜ held (now (self .exit) .defines) ≡ held (now (self .entry) .defines) ⌝ }
+        ensures stores { λ _. ⌜ Spends (tank (now (meter .entry))) (tank (now (meter .exit))) ⌝ }
+    {
+        self.blocks.skipping = true;
+        let Some(block) = self.blocks.top() else {
+            return Err(StepExit::Error(fault(PreprocessorError::ElifOutsideOfBlock, directive_location)));
+        };
+        if block.had_else {
+            return Err(StepExit::Error(fault(PreprocessorError::ElifAfterElse, directive_location)));
+        }
+        if block.outer_skipped || block.had_valid_segment {
+            return self.reader.consume_until_newline();
+        }
+        if self.condition(directive_location, meter)? {
+            self.blocks.change(DirectiveBlock { had_valid_segment: true, ..block }, false);
+        }
+        Ok(())
+    }
+
+    pub fn parse_else_directive(&mut self, directive_location: Location) -> Step<()>
+        ensures { λ _. ⌜ held (now (self .exit) .defines) ≡ held (now (self .entry) .defines) ⌝ }
+    {
+        self.reader.expect_newline(directive_location)?;
+        let Some(block) = self.blocks.top() else {
+            return Err(StepExit::Error(fault(PreprocessorError::ElseOutsideOfBlock, directive_location)));
+        };
+        if block.had_else {
+            return Err(StepExit::Error(fault(PreprocessorError::MoreThanOneElse, directive_location)));
+        }
+        let skipping = block.outer_skipped || block.had_valid_segment;
+        self.blocks.change(DirectiveBlock { had_else: true, ..block }, skipping);
+        Ok(())
+    }
+
+    // After `#endif` the text is live exactly where the block lies in live text.
+    pub fn parse_endif_directive(&mut self, directive_location: Location) -> Step<()>
+        ensures { λ _. ⌜ held (now (self .exit) .defines) ≡ held (now (self .entry) .defines) ⌝ }
+    {
+        let Some(block) = self.blocks.close() else {
+            return Err(StepExit::Error(fault(PreprocessorError::EndifOutsideOfBlock, directive_location)));
+        };
+        self.blocks.skipping = block.outer_skipped;
+        if block.outer_skipped {
+            self.reader.consume_until_newline()
+        } else {
+            self.reader.expect_newline(directive_location)
+        }
+    }
+
+    // The expressions of a gathered `#line`: the line, and a source number that is of no account.
+    fn evaluate_line(&mut self, location: Location, line: Span, meter: &mut Meter) -> Result<(), Fault>
+        ensures defs { λ _. ⌜ held (now (self .exit) .defines) ≡ held (now (self .entry) .defines) ⌝ }
+        ensures stores { λ _. ⌜ Grows (tank (now (meter .entry))) (tank (now (meter .exit))) ⌝ }
+    {
+        self.parser.begin(line, location, self.reader.last, false);
+        let value = self.parser.evaluate_expression(&self.defines, meter)?;
+        if value < 0 || value > 4294967295 {
+            return Err(fault(PreprocessorError::LineOverflow, location));
+        }
+        self.line_offset = value - i64::from(location.line);
+        if self.parser.peek(&self.defines, meter)?.is_some() {
+            let _ = self.parser.evaluate_expression(&self.defines, meter)?;
+        }
+        match self.parser.peek(&self.defines, meter)? {
+            Some(token) => Err(unexpected(token)),
+            None => Ok(()),
+        }
+    }
+
+    pub fn parse_line_directive(&mut self, directive_location: Location, meter: &mut Meter) -> Step<()>
+        ensures defs { λ _. ⌜ held (now (self .exit) .defines) ≡ held (now (self .entry) .defines) ⌝ }
+        ensures stores { λ _. ⌜ Spends (tank (now (meter .entry))) (tank (now (meter .exit))) ⌝ }
+    {
+        let mark = meter.mark();
+        let guard = Guard { meter, mark };
+        let line = self.reader.gather_until_newline(guard.meter)?;
+        match self.evaluate_line(directive_location, line, guard.meter) {
+            Ok(()) => Ok(()),
+            Err(f) => Err(StepExit::Error(f)),
+        }
+    }
+}

@@ -1,0 +1,3 @@
+pub mod Converts
+pub mod Reads
+pub mod Blocks
