@@ -1,14 +1,14 @@
 -- A book has only the tokens below the mark.
-use Prim.Native.Nat.{ℕ, zero, suc, _+_, _-_, _<_, _≤_}
+use Prim.Native.Nat.{ℕ, suc, _+_, _-_, _≤_}
 use mathlib.Core.Path.{_≡_, refl, sym, ap, _∙_}
 use mathlib.Core.List.{List, [], _∷_, _++_}
 use native.Mathlib.Omega.{arith}
-use lib.ListN.{length, getD, take, drop}
+use lib.ListN.{length, take, drop}
 use Rattle.std.proofs.shelf.Lists.{drop-take, take-take, take-append-le, take-rest}
 use Rattle.tokens.specs.declared.token.Token.{Token}
 use Rattle.tokens.specs.declared.token.Part.{Part}
 use Rattle.defines.specs.declared.define.Define.{Define}
-use Rattle.defines.specs.Parts.{partOf, entry, entries, shelf, vacant, Lies, Within}
+use Rattle.defines.specs.Parts.{partOf, entry, entries, shelf, Lies, Within}
 
 module _ (k : List Token) (mark : ℕ) where
   pub part-front : (p : Part) → p .start + p .len ≤ mark → partOf k p ≡ partOf (take mark k) p

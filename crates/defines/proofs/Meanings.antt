@@ -1,20 +1,19 @@
 -- What a handle means and where a name is found, from the definitions.
-use Prim.Native.Nat.{ℕ, zero, suc, _+_, _-_, _<_, _≤_}
+use Prim.Native.Nat.{ℕ, _+_, _-_, _<_, _≤_}
 use mathlib.Core.Path.{_≡_, refl, sym, ap, _∙_}
 use mathlib.Core.Bool.{Bool, true, false, cond}
 use mathlib.Core.List.{List, [], _∷_, map}
 use native.Mathlib.Omega.{arith}
 use lib.Dec.{eqb}
-use lib.ListN.{length, getD, take, drop}
+use lib.ListN.{length, getD, drop}
 use Rattle.std.proofs.shelf.Lists.{length-take, length-drop, getD-take, getD-drop, getD-map, at-drop-more, at-drop-all}
 use Rattle.std.proofs.shelf.Maps.{nth-past, nth-getD}
 use Rattle.std.specs.Finite.{nth}
-use Rattle.std.specs.declared.option.Option.{Option}
 use Rattle.std.specs.declared.option.Option.the-variants.{Some, None}
 use Rattle.stores.specs.Places.{bears, place}
 use Rattle.tokens.specs.declared.token.Token.{Token}
 use Rattle.tokens.specs.declared.token.Part.{Part}
-use Rattle.books.specs.Book.{Definition, Entry, Defs, none, mean, hit, seek, find, live}
+use Rattle.books.specs.Book.{none, mean, hit, seek, live}
 use Rattle.defines.specs.declared.define.Define.{Define}
 use Rattle.defines.specs.Parts.{partOf, entry, entries, shelf, keyOf, vacant, Within}
 use Rattle.defines.specs.Entries.{entry-at, entries-len}

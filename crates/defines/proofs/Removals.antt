@@ -1,19 +1,18 @@
 -- A name that is taken out of force or put in force, and what stays.
-use Prim.Native.Nat.{ℕ, zero, suc, _+_, _-_, _<_, _≤_}
+use Prim.Native.Nat.{ℕ, zero, suc, _+_, _-_, _<_}
 use mathlib.Core.Path.{_≡_, refl, sym, ap, subst, _∙_}
 use mathlib.Core.Logic.{_⊎_, inl, inr, ⊎-elim}
 use mathlib.Core.Bool.{Bool, true, false, cond}
 use mathlib.Core.List.{List, [], _∷_, _++_}
 use native.Mathlib.Omega.{arith}
-use native.Mathlib.Numerals.{add-one}
 use lib.Dec.{eqb}
 use lib.ListN.{length, getD, set}
 use Rattle.std.proofs.shelf.Lists.{length-set, length-push, getD-set-same, getD-set-other, getD-push, getD-append-left}
-use Rattle.std.proofs.shelf.Tests.{both-ways, eq-eqb, eqb-true, cases-eq, cases-bool}
+use Rattle.std.proofs.shelf.Tests.{both-ways, eq-eqb, cases-eq, cases-bool}
 use Rattle.std.proofs.str.Laws.{order}
 use Rattle.std.specs.declared.option.Option.{Option}
 use Rattle.std.specs.declared.option.Option.the-variants.{Some, None}
-use Rattle.books.specs.Book.{Definition, Entry, Defs, Sound, none, mean, hit, seek, find, has, InForce, Grown, Kept}
+use Rattle.books.specs.Book.{Entry, Defs, Sound, none, hit, seek, find, has, Grown, Kept}
 use Rattle.books.specs.Books.{hit-is, seek-at}
 use Rattle.defines.specs.Changes.{dead, cleared, without, entered, accepted}
 

@@ -1,6 +1,6 @@
 -- Definitions that are entered in the table or taken out of force there.
-use Prim.Native.Nat.{ℕ, zero, suc, _+_, _-_, _<_, _≤_}
-use mathlib.Core.Path.{_≡_, refl, sym, ap, subst, _∙_}
+use Prim.Native.Nat.{ℕ, _+_, _-_, _<_, _≤_}
+use mathlib.Core.Path.{_≡_, sym, ap, subst, _∙_}
 use mathlib.Core.Logic.{_⊎_, inl, inr, ⊎-elim}
 use mathlib.Core.Bool.{Bool, true, false, cond}
 use mathlib.Core.List.{List, [], _∷_, _++_}
@@ -10,12 +10,11 @@ use lib.ListN.{length, getD, take, drop, set}
 use Rattle.std.proofs.shelf.Lists.{map-append, map-set, length-set, length-push, getD-set-same, getD-set-other, getD-push, getD-append-left, getD-past, take-rest}
 use Rattle.std.proofs.shelf.Tests.{both-ways, eq-eqb, cases-eq}
 use Rattle.std.proofs.str.Laws.{order}
-use Rattle.std.specs.declared.option.Option.the-variants.{Some, None}
+use Rattle.std.specs.declared.option.Option.the-variants.{None}
 use Rattle.tokens.specs.declared.token.Token.{Token}
-use Rattle.tokens.specs.declared.token.Part.{Part}
-use Rattle.books.specs.Book.{Definition, Entry, Defs, none, hit, find}
+use Rattle.books.specs.Book.{none, hit, find}
 use Rattle.defines.specs.declared.define.Define.{Define}
-use Rattle.defines.specs.Parts.{partOf, entry, entries, shelf, vacant, Lies, Within, Once, Twice}
+use Rattle.defines.specs.Parts.{entry, entries, shelf, vacant, Lies, Within, Once}
 use Rattle.defines.specs.Changes.{dead, made, entered}
 use Rattle.defines.specs.Entries.{entry-at, entries-len}
 use Rattle.defines.proofs.Removals.{seek-none}

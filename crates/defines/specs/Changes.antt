@@ -1,4 +1,4 @@
--- empty: the book of nothing
+-- empty: the book of no definition
 -- dead e: an entry taken out of force; cleared es o: the entries without the one at a place, if any, in force
 -- without d n: the book in which the name n is not in force
 -- made n f ps b: a definition in force; entered d e: the book with one more entry
@@ -6,11 +6,11 @@
 use Prim.Native.Nat.{ℕ}
 use mathlib.Core.Bool.{Bool, true, false}
 use mathlib.Core.List.{List, [], _∷_, _++_}
-use lib.ListN.{length, getD, set}
+use lib.ListN.{getD, set}
 use Rattle.std.specs.declared.option.Option.{Option}
 use Rattle.std.specs.declared.option.Option.the-variants.{Some, None}
 use Rattle.tokens.specs.declared.token.Token.{Token}
-use Rattle.books.specs.Book.{Definition, Entry, Defs, none, find}
+use Rattle.books.specs.Book.{Entry, Defs, none, find}
 
 abbrev pub empty : Defs
 empty = record { table = [] }

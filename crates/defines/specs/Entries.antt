@@ -1,14 +1,15 @@
 -- Definitions as entries of a book, by place.
-use Prim.Native.Nat.{ℕ, zero, suc, _+_, _-_, _<_, _≤_}
+-- entry-at: the entry at a place; entries-len: how many there are; sound: what the table keeps makes a sound book
+use Prim.Native.Nat.{ℕ, zero, suc, _-_, _≤_}
 use mathlib.Core.Path.{_≡_, refl, sym, ap, _∙_}
-use mathlib.Core.List.{List, [], _∷_, map}
+use mathlib.Core.List.{List, [], _∷_}
 use native.Mathlib.Omega.{arith}
-use lib.ListN.{length, getD, take, drop}
+use lib.ListN.{length, getD, drop}
 use Rattle.std.proofs.shelf.Lists.{length-map, length-take, length-drop}
 use Rattle.tokens.specs.declared.token.Token.{Token}
-use Rattle.books.specs.Book.{Definition, Entry, Defs, Sound, none}
+use Rattle.books.specs.Book.{Sound, none}
 use Rattle.defines.specs.declared.define.Define.{Define}
-use Rattle.defines.specs.Parts.{partOf, entry, entries, shelf, vacant, Within, Once, Twice}
+use Rattle.defines.specs.Parts.{entry, entries, shelf, vacant, Within, Once}
 
 pub entry-at : (kept : List Token) (table : List Define) (i : ℕ) → getD (entries kept table) i none ≡ entry kept (getD table i vacant)
 entry-at kept [] i = refl

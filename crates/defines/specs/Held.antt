@@ -2,9 +2,9 @@
 -- settled s: the tokens that stay for ever
 -- parameters s, replacement s: the parameters and the body of the definition that is being read
 -- pending s: the part of all that lies past the mark
-use Prim.Native.Nat.{ℕ, _-_}
+use Prim.Native.Nat.{_-_}
 use mathlib.Core.List.{List}
-use lib.ListN.{length, take, drop}
+use lib.ListN.{take, drop}
 use Rattle.std.specs.Of.Vec.{vec-items, vec-len}
 use Rattle.tokens.specs.declared.token.Token.{Token}
 use Rattle.tokens.specs.declared.token.Part.{Part}

@@ -12,7 +12,7 @@ use Rattle.std.specs.declared.option.Option.{Option}
 use Rattle.std.specs.declared.option.Option.the-variants.{Some, None}
 use Rattle.tokens.specs.declared.token.Token.{Token}
 use Rattle.tokens.specs.declared.token.Part.{Part}
-use Rattle.books.specs.Book.{Definition, Entry, Defs}
+use Rattle.books.specs.Book.{Entry, Defs}
 use Rattle.defines.specs.declared.define.Define.{Define}
 
 abbrev pub partOf : List Token → Part → List Token

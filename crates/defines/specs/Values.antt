@@ -1,4 +1,5 @@
 -- sameInteger x y: the value, the sign and the width agree
+-- asIdent m b, asInteger x b, asFloat x b, asPunct p b: b is the same name, integer, float or punctuation
 -- sameValue a b: two values of a body are equal, where floats go by f32's `==`; no value of a passed directive equals any
 -- sameTokens xs ys: as many tokens with equal values, wherever they stand
 -- legal d f ps b: a definition with this kind, these parameters and this body may be given again for d

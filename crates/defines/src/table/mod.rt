@@ -1,5 +1,5 @@
 // The kept tokens and the definitions, in two stores whose room is taken at set-up.
-ghost use Prim.Native.Nat.{ℕ, _+_, _<_, _≤_};
+ghost use Prim.Native.Nat.{_+_, _<_, _≤_};
 ghost use Rattle.std.specs.Of.Vec.{vec-items, vec-len, vec-cap};
 ghost use Rattle.defines.specs.Parts.{Within, Once};
 use crate::define::Define;

@@ -2,9 +2,9 @@
 ghost use mathlib.Core.Path.{_≡_};
 ghost use mathlib.Core.Bool.{cond, false};
 ghost use mathlib.Core.List.{_∷_, [], _++_, map};
-ghost use Prim.Native.Nat.{ℕ, _+_, _-_, _<_, _≤_};
+ghost use Prim.Native.Nat.{_+_, _-_, _<_};
 ghost use lib.Dec.{ltb};
-ghost use lib.ListN.{length, take, drop};
+ghost use lib.ListN.{length, drop};
 ghost use Rattle.std.specs.Of.Vec.{vec-items, vec-len};
 ghost use Rattle.std.specs.Options.{isSome};
 ghost use Rattle.std.specs.Vec.{made};
@@ -16,6 +16,7 @@ ghost use Rattle.defines.specs.Parts.{partOf};
 ghost use Rattle.defines.specs.Held.{held, settled, parameters, replacement, pending};
 ghost use Rattle.defines.specs.Values.{legal};
 use super::Defines;
+use super::changes::MAX_DEFINES;
 use crate::redefine::same_tokens;
 use books::Handle;
 use std::alloc::AllocError;
@@ -35,8 +36,8 @@ impl Defines {
     pub fn new(heap: Global) -> Result<Defines, AllocError>
         ensures { λ r. ⌜ made r (λ s. (held s ≡ empty) × (vec-items (s .kept) ≡ []) × (s .mark ≡ 0) × (s .body ≡ 0)) ⌝ }
     {
-        let kept = Vec::with_capacity(heap, 2048)?;
-        let table = Vec::with_capacity(heap, 512)?;
+        let kept = Vec::with_capacity(heap, MAX_KEPT)?;
+        let table = Vec::with_capacity(heap, MAX_DEFINES)?;
         Ok(Defines {
             kept,
             table,

@@ -1,12 +1,12 @@
 use mathlib.Core.Path.{_≡_, refl, sym, ap, subst, _∙_}
-use mathlib.Core.Bool.{true, false}
-use Prim.Native.Nat.{ℕ, _-_, _<_, _≤_}
+use mathlib.Core.Bool.{false}
+use Prim.Native.Nat.{_-_, _<_, _≤_}
 use native.Mathlib.Omega.{arith}
 use lib.ListN.{length, take, drop}
 use Rattle.std.proofs.shelf.Lists.{length-take}
 use borrow.Author.Tests.{lt-ltb, le-ltb, both-ways}
 use Rattle.std.specs.Of.Vec.{vec-items, vec-len}
-use Rattle.books.specs.Book.{Entry, find, Grown, Kept}
+use Rattle.books.specs.Book.{find, Kept}
 use Rattle.defines.specs.Changes.{made, entered, accepted}
 use Rattle.defines.specs.Entries.{entries-len}
 use Rattle.defines.specs.Held.{held, parameters, replacement}

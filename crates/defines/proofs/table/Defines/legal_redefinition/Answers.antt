@@ -1,5 +1,5 @@
 use mathlib.Core.Path.{_≡_, sym, ap, _∙_}
-use mathlib.Core.Bool.{Bool, true, false, Bool·beq}
+use mathlib.Core.Bool.{true, false, Bool·beq}
 use Prim.Native.Nat.{_-_}
 use Rattle.std.specs.Of.Vec.{vec-items}
 use Rattle.defines.specs.Parts.{partOf, entry}

@@ -1,9 +1,9 @@
 use mathlib.Core.Path.{_≡_, refl, sym, ap, subst, _∙_}
 use Prim.Native.Nat.{_<_}
 use native.Mathlib.Omega.{arith}
-use lib.ListN.{length, getD, set}
+use lib.ListN.{length, set}
 use Rattle.std.specs.Of.Vec.{vec-items, vec-len}
-use Rattle.std.proofs.shelf.Lists.{getD-read-under, length-set}
+use Rattle.std.proofs.shelf.Lists.{getD-read-under}
 use Rattle.books.specs.Book.{find}
 use Rattle.books.specs.Books.{found}
 use Rattle.defines.specs.Changes.{cleared, without}
