@@ -2,7 +2,6 @@
 ghost use mathlib.Core.Path.{_≡_};
 ghost use mathlib.Core.Bool.{true, false};
 ghost use Rattle.std.specs.declared.option.Option.the-variants.{None};
-ghost use Rattle.sources.specs.Source.{Tokens};
 ghost use Rattle.sources.specs.Mending.{mend, missing, mended};
 ghost use Rattle.sources.specs.Recorded.{meant, meant-lawful};
 use super::Records;
