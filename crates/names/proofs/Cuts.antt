@@ -1,11 +1,11 @@
 -- The first names alone, and one name more, still lie one after another.
 use mathlib.Core.Path.{_≡_, refl, sym, ap, subst, _∙_}
-use mathlib.Core.List.{List, [], _∷_, _++_, map}
+use mathlib.Core.List.{List, [], _∷_, _++_}
 use mathlib.Core.Logic.{⊎-elim}
-use Prim.Native.Nat.{ℕ, zero, suc, _+_, _-_, _<_, _≤_, min}
+use Prim.Native.Nat.{ℕ, _+_, _<_, _≤_, min}
 use native.Mathlib.Omega.{arith}
 use lib.ListN.{length, take, drop, getD}
-use Rattle.std.proofs.shelf.Lists.{append-nil, append-assoc, getD-append-left, getD-push, length-push, length-append, length-drop, length-take, length-take-le, length-map, getD-map, getD-take, take-more, take-all, take-at, take-take, take-map, take-append-le, take-append-drop}
+use Rattle.std.proofs.shelf.Lists.{append-assoc, getD-append-left, getD-push, length-push, length-append, length-drop, length-take, length-take-le, length-map, getD-map, getD-take, take-more, take-all, take-at, take-take, take-map, take-append-le, take-append-drop}
 use Rattle.std.proofs.shelf.Tests.{cases-lt}
 use Rattle.names.specs.declared.span.Span.{Span}
 use Rattle.names.specs.Spans.{spanned, listed, joint, Within, Placed, Distinct}

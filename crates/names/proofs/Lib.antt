@@ -1,3 +1,4 @@
+-- The lemmas behind the table of names.
 pub mod Tables
 pub mod Cuts
 pub mod Sizes

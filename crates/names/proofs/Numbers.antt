@@ -1,24 +1,20 @@
 -- The same number exactly when the bytes agree.
-use mathlib.Core.Path.{_≡_, refl, sym, ap, subst, _∙_}
+use mathlib.Core.Path.{_≡_, refl, sym, ap, _∙_}
 use mathlib.Core.Bool.{Bool, true, false, cond}
 use mathlib.Core.List.{List, [], _∷_, _++_}
-use mathlib.Core.Logic.{_⊎_, inl, inr, ⊎-elim}
-use Prim.Native.Nat.{ℕ, zero, suc, _+_, _-_, _<_, _≤_}
+use Prim.Native.Nat.{ℕ, suc, _+_, _-_, _<_, _≤_}
 use native.Mathlib.Omega.{arith}
-use borrow.Author.Needs.{needs}
 use lib.ListN.{length, getD}
 use Rattle.std.specs.shelf.Text.{sameBytes}
 use Rattle.std.specs.declared.option.Option.{Option}
 use Rattle.std.specs.declared.option.Option.the-variants.{Some, None}
-use Rattle.std.specs.declared.result.Result.{Result}
 use Rattle.std.specs.declared.result.Result.the-variants.{Ok, Err}
 use Rattle.std.proofs.shelf.Lists.{getD-push, getD-append-left, length-push}
 use Rattle.std.proofs.shelf.Equals.{sameBytes-decides}
-use Rattle.tokens.specs.declared.fault.Refusal.{Refusal}
 use Rattle.tokens.specs.declared.fault.Refusal.the-variants.{NameLength, NamesFull}
-use Rattle.names.specs.Spans.{joint, Distinct}
+use Rattle.names.specs.Spans.{Distinct}
 use Rattle.names.specs.Interning.{seek, fits, room, entered, extended, answer, after, Same-number}
-use Rattle.names.proofs.Tables.{Absent, absent, distinct-push}
+use Rattle.names.proofs.Tables.{absent, distinct-push}
 
 -- what is found stands there
 pub record Holds (ns : List (List ℕ)) (b : List ℕ) (i : ℕ) : Type 0 where

@@ -1,15 +1,15 @@
 -- What the table's proofs share.
 use mathlib.Core.Path.{_≡_, refl, sym, ap, subst, _∙_}
 use mathlib.Core.Bool.{Bool, true, false, cond}
-use mathlib.Core.List.{List, [], _∷_, _++_, map}
-use Prim.Native.Nat.{ℕ, zero, suc, _+_, _-_, _<_, _≤_}
+use mathlib.Core.List.{List, [], _∷_, _++_}
+use Prim.Native.Nat.{ℕ, zero, suc, _+_, _<_, _≤_}
 use native.Mathlib.Omega.{arith}
 use borrow.Author.Needs.{needs}
 use lib.ListN.{length, take, drop, getD}
 use Rattle.std.specs.shelf.Text.{sameBytes}
 use Rattle.std.specs.declared.option.Option.{Option}
 use Rattle.std.specs.declared.option.Option.the-variants.{Some, None}
-use Rattle.std.proofs.shelf.Lists.{append-nil, append-assoc, getD-append-left, getD-push, length-push, length-append, length-drop, getD-map, length-map, at-drop-more, at-drop-all, map-append, drop-append-le, take-append-le, drop-at, take-all}
+use Rattle.std.proofs.shelf.Lists.{append-nil, append-assoc, getD-append-left, getD-push, length-push, length-append, length-drop, getD-map, at-drop-more, at-drop-all, map-append, drop-append-le, take-append-le, drop-at, take-all}
 use Rattle.std.proofs.shelf.Tests.{cases-lt}
 use mathlib.Core.Logic.{⊎-elim}
 use Rattle.std.proofs.shelf.Equals.{sameBytes-decides}

@@ -4,7 +4,7 @@
 -- answer ns b: the number of the name, or why it is refused; after ns b: the names after that, where a refusal changes nothing
 -- Same-number: two names, one entered after the other, get the same number exactly when all their bytes agree
 use mathlib.Core.Path.{_≡_}
-use mathlib.Core.Bool.{Bool, true, false, cond}
+use mathlib.Core.Bool.{Bool, false, cond}
 use mathlib.Core.List.{List, [], _∷_, _++_}
 use Prim.Native.Nat.{ℕ, _+_}
 use lib.ListN.{length}

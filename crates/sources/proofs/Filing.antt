@@ -1,18 +1,17 @@
 -- What a token file means, test by test.
-use mathlib.Core.Path.{_≡_, refl, sym, ap, subst, _∙_}
+use mathlib.Core.Path.{_≡_, sym, ap, subst, _∙_}
 use mathlib.Core.Logic.{_⊎_}
-use mathlib.Core.Bool.{Bool, true, false, cond, _&&_}
-use mathlib.Core.List.{List, map}
+use mathlib.Core.Bool.{true, false, cond, _&&_}
+use mathlib.Core.List.{List}
 use Prim.Native.Nat.{ℕ, _+_, _-_, _*_, _/_, _≤_}
 use native.Mathlib.Omega.{arith}
 use lib.Dec.{leb, eqb}
 use lib.ListN.{length, drop}
 use Rattle.std.specs.Vectors.{chunked}
 use Rattle.std.specs.Results.{isOk}
-use Rattle.std.specs.declared.option.Option.{Option}
 use Rattle.std.specs.declared.option.Option.the-variants.{Some, None}
 use Rattle.std.specs.declared.result.Result.{Result}
-use Rattle.std.specs.declared.result.Result.the-variants.{Ok, Err}
+use Rattle.std.specs.declared.result.Result.the-variants.{Err}
 use Rattle.std.proofs.shelf.Lists.{length-drop}
 use Rattle.std.proofs.shelf.Tests.{and-parts, and-from, eqb-true, le-leb}
 use Rattle.tokens.specs.declared.fault.Refusal.{Refusal}
@@ -21,9 +20,9 @@ use Rattle.tokens.specs.declared.lexer.LexerToken.{LexerToken}
 use Rattle.sources.specs.Source.{Tokens, lawful}
 use Rattle.sources.specs.Bytes.{four}
 use Rattle.sources.specs.Fields.{tokensOf}
-use Rattle.sources.specs.Contents.{total, allFit, lengthBytes, bodies, nameLens, recordBytes, shaped, fileNames, fileTokens}
+use Rattle.sources.specs.Contents.{total, allFit, bodies, nameLens, recordBytes, shaped, fileNames, fileTokens}
 use Rattle.sources.specs.Entering.{numbersOf}
-use Rattle.sources.specs.Filed.{begun, renamed, entered, named, checked, filed}
+use Rattle.sources.specs.Filed.{begun, entered, named, checked, filed}
 use Rattle.sources.specs.FileSource.{Filing}
 use Rattle.sources.specs.declared.file.TokenFile.{TokenFile}
 

@@ -1,3 +1,4 @@
+-- The lemmas behind the sources.
 pub mod Reading
 pub mod Decoding
 pub mod Laws

@@ -1,5 +1,5 @@
 -- What a source answers and means one token on.
-use mathlib.Core.Path.{_≡_, refl, sym, ap, _∙_}
+use mathlib.Core.Path.{_≡_, sym, ap, _∙_}
 use mathlib.Core.Bool.{Bool, true, false, cond}
 use mathlib.Core.List.{List, [], _∷_}
 use native.Mathlib.Omega.{arith}
@@ -10,7 +10,7 @@ use Rattle.tokens.specs.declared.lexer.LexerToken.{LexerToken}
 use Rattle.tokens.specs.declared.lexer.Closing.{Closing}
 use Rattle.tokens.specs.declared.lexer.Closing.the-variants.{End, Fault}
 use Rattle.sources.specs.Source.{Tokens, isNewLine, first, rest-of, mark-of, fresh-of, read, after}
-use Rattle.sources.specs.Mending.{seenAfter, freshAfter, mend, lineEnd, missing, supplied, mended}
+use Rattle.sources.specs.Mending.{lineEnd, missing, supplied}
 
 -- where no token is left, nothing changes
 pub empty-read : (k : Tokens) → k .rest ≡ [] → Err (k .closing) ≡ read k

@@ -4,7 +4,7 @@
 -- tokensOf n bs: all tokens, none where one of them is none
 -- Decoded r o: what decoding answers where the tokens are o, unless memory fails
 use mathlib.Core.Path.{_≡_}
-use mathlib.Core.Bool.{Bool, true, false, cond, _&&_}
+use mathlib.Core.Bool.{Bool, cond, _&&_}
 use mathlib.Core.List.{List, [], _∷_}
 use mathlib.Core.Logic.{_⊎_}
 use Prim.Native.Nat.{ℕ, _/_, _%_}

@@ -1,3 +1,4 @@
+-- What sources mean, and what a token file means.
 pub mod Source
 pub mod Mending
 pub mod Recorded

@@ -1,9 +1,9 @@
 -- meant s: what a source over the caller's records means; meant-lawful s: that is lawful
-use mathlib.Core.Path.{_≡_, refl}
+use mathlib.Core.Path.{_≡_}
 use mathlib.Core.Bool.{Bool, true, false, _&&_}
 use lib.ListN.{drop}
 use denote.Ref.{now}
-use Rattle.sources.specs.Source.{Tokens, ended, starts, stays, lawful}
+use Rattle.sources.specs.Source.{Tokens, lawful}
 use Rattle.sources.specs.Mending.{seenAfter, freshAfter, mended, mended-ended, mended-starts, mended-stays}
 use Rattle.sources.specs.declared.records.Records.{Records}
 

@@ -1,6 +1,6 @@
 // Entering names, finding them, reading them back, and forgetting the latest.
 ghost use mathlib.Core.Path.{_≡_};
-ghost use Prim.Native.Nat.{ℕ, _+_, _<_, _≤_};
+ghost use Prim.Native.Nat.{_+_, _<_, _≤_};
 ghost use mathlib.Core.List.{[], _∷_, _++_};
 ghost use Rattle.std.specs.declared.option.Option.the-variants.{None};
 ghost use lib.ListN.{length, getD, take};

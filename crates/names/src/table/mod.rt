@@ -1,6 +1,6 @@
 // The table of names.
 ghost use mathlib.Core.Path.{_≡_};
-ghost use Prim.Native.Nat.{ℕ, _≤_};
+ghost use Prim.Native.Nat.{_≤_};
 ghost use Rattle.std.specs.Of.Vec.{vec-items, vec-len, vec-cap};
 ghost use Rattle.names.specs.Spans.{Within, Placed, listed, joint, Distinct};
 use crate::span::Span;

@@ -1,6 +1,6 @@
 // Numbers and fields in bytes, lowest byte first.
 ghost use mathlib.Core.Path.{_≡_};
-ghost use Prim.Native.Nat.{ℕ, _+_, _≤_};
+ghost use Prim.Native.Nat.{_+_, _≤_};
 ghost use lib.ListN.{length};
 ghost use Rattle.sources.specs.Bytes.{two, four, eight, rawOf};
 use super::raw::Raw;

@@ -1,6 +1,6 @@
 // From a token's fields to the token, none where a field is out of range.
 ghost use mathlib.Core.Path.{_≡_};
-ghost use Prim.Native.Nat.{ℕ, _/_};
+ghost use Prim.Native.Nat.{_/_};
 ghost use lib.ListN.{length};
 ghost use Rattle.std.specs.Vectors.{chunked};
 ghost use Rattle.sources.specs.Fields.{valueOf, tokenOf, tokensOf, Decoded};

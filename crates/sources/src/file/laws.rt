@@ -1,7 +1,7 @@
 // Whether a file's tokens keep the laws of a source.
 ghost use mathlib.Core.Path.{_≡_};
 ghost use mathlib.Core.Bool.{true, false};
-ghost use Rattle.sources.specs.Source.{Tokens, lawful};
+ghost use Rattle.sources.specs.Source.{lawful};
 ghost use Rattle.sources.specs.Filed.{begun, follows};
 use crate::line::is_new_line;
 use tokens::lexer::LexerToken;

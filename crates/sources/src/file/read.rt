@@ -14,6 +14,7 @@ use super::fields::decode;
 use super::laws::keep_laws;
 use super::parts::lengths_fit;
 use super::parts::parts_of;
+use crate::last::seen_after;
 use crate::source::Source;
 use names::table::Names;
 use std::alloc::Global;
@@ -87,9 +88,6 @@ pub impl Source for TokenFile as TokenFileSource {
     }
 
     fn had_comments(&self) -> bool {
-        match self.last {
-            Some(token) => token.had_comments,
-            None => false,
-        }
+        seen_after(self.last)
     }
 }

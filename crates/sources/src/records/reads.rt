@@ -2,34 +2,17 @@
 ghost use mathlib.Core.Path.{_≡_};
 ghost use mathlib.Core.Bool.{true, false};
 ghost use Rattle.std.specs.declared.option.Option.the-variants.{None};
-ghost use Rattle.sources.specs.Source.{Tokens};
-ghost use Rattle.sources.specs.Mending.{seenAfter, freshAfter, mend, missing, mended};
+ghost use Rattle.sources.specs.Mending.{mend, missing, mended};
 ghost use Rattle.sources.specs.Recorded.{meant, meant-lawful};
 use super::Records;
+use crate::last::fresh_after;
+use crate::last::seen_after;
 use crate::line::is_new_line;
 use crate::source::Source;
 use tokens::lexer::Closing;
 use tokens::lexer::LexerToken;
 use tokens::lexer::LexerTokenValue;
 use tokens::location::Location;
-
-fn seen_after(last: Option<LexerToken>) -> bool
-    ensures { λ r. ⌜ r ≡ seenAfter last ⌝ }
-{
-    match last {
-        Some(token) => token.had_comments,
-        None => false,
-    }
-}
-
-fn fresh_after(last: Option<LexerToken>) -> bool
-    ensures { λ r. ⌜ r ≡ freshAfter last ⌝ }
-{
-    match last {
-        Some(token) => is_new_line(token.value),
-        None => true,
-    }
-}
 
 // The record as it is delivered after `last`.
 fn mend_record(last: Option<LexerToken>, record: LexerToken) -> LexerToken

@@ -1,13 +1,13 @@
 -- The first names alone keep the table in order.
-use mathlib.Core.Path.{_≡_, refl, sym, ap, subst, _∙_}
+use mathlib.Core.Path.{_≡_, sym, ap, subst, _∙_}
 use mathlib.Core.List.{List}
-use Prim.Native.Nat.{ℕ, _<_, _≤_}
+use Prim.Native.Nat.{ℕ, _<_}
 use native.Mathlib.Omega.{arith}
 use lib.ListN.{length, take, getD}
-use Rattle.std.specs.Of.Vec.{vec-items, vec-len}
-use Rattle.std.proofs.shelf.Lists.{take-all, length-map}
+use Rattle.std.specs.Of.Vec.{vec-items}
+use Rattle.std.proofs.shelf.Lists.{take-all}
 use Rattle.names.specs.declared.span.Span.{Span}
-use Rattle.names.specs.Spans.{spanned, listed, joint, Within, Placed, Distinct}
+use Rattle.names.specs.Spans.{listed, joint, Within, Placed, Distinct}
 use Rattle.names.specs.Table.{names}
 use Rattle.names.proofs.Sizes.{count}
 use Rattle.names.proofs.Cuts.{within-cut, listed-cut, joined-cut, placed-cut, distinct-cut}

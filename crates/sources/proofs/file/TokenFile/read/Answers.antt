@@ -1,17 +1,16 @@
 -- The tests in their order.
-use mathlib.Core.Path.{_≡_, refl, sym, ap, subst, _∙_}
+use mathlib.Core.Path.{_≡_, refl, sym, ap, _∙_}
 use mathlib.Core.Bool.{true, false}
 use mathlib.Core.Logic.{⊎-elim, inl, inr}
-use mathlib.Core.List.{map}
 use Rattle.std.specs.Of.Vec.{vec-items}
 use Rattle.std.specs.declared.option.Option.the-variants.{Some}
-use Rattle.std.specs.declared.result.Result.the-variants.{Ok, Err}
+use Rattle.std.specs.declared.result.Result.the-variants.{Err}
 use Rattle.std.proofs.shelf.Results.{err-from-errBy}
 use Rattle.names.specs.Table.{names}
 use Rattle.sources.specs.Source.{lawful}
 use Rattle.sources.specs.Contents.{lensOf, cut, allFit, nameLens, fileNames, fileTokens}
 use Rattle.sources.specs.Entering.{numbersOf, tableAfter}
-use Rattle.sources.specs.Filed.{begun, renamed, entered, filed}
+use Rattle.sources.specs.Filed.{begun, entered, filed}
 use Rattle.sources.proofs.Laws.{renamed-lawful}
 use Rattle.sources.proofs.Filing.{file-tokens, no-tokens, unlawful, bad-length, all-tested, refused, untouched}
 use Rattle.sources.proofs.file.TokenFile.read.Needs as need

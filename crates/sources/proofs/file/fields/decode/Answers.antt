@@ -1,5 +1,5 @@
 -- One record gives one token, or the file is refused.
-use mathlib.Core.Path.{_≡_, refl, sym, ap, _∙_}
+use mathlib.Core.Path.{refl, sym, ap, _∙_}
 use mathlib.Core.Logic.{inr}
 use Rattle.std.specs.Of.Vec.{vec-items}
 use lib.ListN.{drop}

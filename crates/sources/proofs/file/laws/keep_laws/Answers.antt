@@ -1,5 +1,5 @@
 -- One token's marks decide, then those after it.
-use mathlib.Core.Path.{_≡_, sym, _∙_}
+use mathlib.Core.Path.{sym, _∙_}
 use Rattle.std.proofs.shelf.Lists.{at-drop-all}
 use Rattle.sources.proofs.Laws.{keeps, keeps-lawful, keeps-stop, keeps-on}
 use Rattle.sources.proofs.file.laws.keep_laws.Needs as need

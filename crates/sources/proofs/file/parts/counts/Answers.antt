@@ -1,5 +1,4 @@
 -- The counts are the first eight bytes.
-use native.Mathlib.Omega.{arith}
 use borrow.Author.Needs.{needs}
 use Rattle.std.proofs.shelf.Lists.{take-rest}
 use Rattle.sources.proofs.file.parts.counts.Needs as need

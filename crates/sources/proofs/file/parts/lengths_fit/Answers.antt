@@ -1,5 +1,5 @@
 -- One length decides, then those after it.
-use mathlib.Core.Path.{_≡_, sym, ap, _∙_}
+use mathlib.Core.Path.{sym, ap, _∙_}
 use mathlib.Core.List.{map}
 use Rattle.std.proofs.shelf.Lists.{at-drop-all}
 use Rattle.sources.specs.Contents.{lenOf, allFit}

@@ -1,5 +1,5 @@
 -- One token of the file, or End.
-use mathlib.Core.Path.{_≡_, refl, sym, ap, subst, _∙_}
+use mathlib.Core.Path.{_≡_, sym, ap, subst, _∙_}
 use mathlib.Core.Bool.{true}
 use mathlib.Core.List.{[], _∷_, map}
 use Prim.Native.Nat.{_+_, _<_, _≤_}

@@ -1,12 +1,12 @@
 -- One record, the missing line end, or the closing.
-use mathlib.Core.Path.{_≡_, refl, sym, ap, _∙_}
+use mathlib.Core.Path.{_≡_, sym, ap, _∙_}
 use mathlib.Core.List.{[], _∷_}
 use Prim.Native.Nat.{_+_}
 use lib.ListN.{drop}
-use Rattle.std.specs.declared.option.Option.the-variants.{Some, None}
+use Rattle.std.specs.declared.option.Option.the-variants.{Some}
 use Rattle.std.proofs.shelf.Lists.{drop-more, drop-all}
-use Rattle.sources.specs.Source.{Tokens, isNewLine}
-use Rattle.sources.specs.Mending.{mend, missing, supplied, mended}
+use Rattle.sources.specs.Source.{isNewLine}
+use Rattle.sources.specs.Mending.{missing, supplied, mended}
 use Rattle.sources.specs.Recorded.{meant}
 use Rattle.sources.proofs.Reading.{empty-read, empty-after, first-read, first-after, supplied-once}
 use Rattle.sources.proofs.records.reads.RecordsSource.next.Needs as need
