@@ -4,6 +4,9 @@ ghost use Rattle.stores.specs.Tank.{tank, Grows, Spends};
 ghost use Rattle.defines.specs.Held.{held};
 use crate::processor::DirectiveProcessor;
 use books::Book;
+use conditions::if_lexer::IfLexer;
+use conditions::if_lexer::IfLexerBook;
+use conditions::if_lexer::IfLexerFeed;
 use defines::table::book::DefinesBook;
 use reading::blocks::DirectiveBlock;
 use reading::convert::fault;
@@ -36,9 +39,10 @@ impl<S: Source> DirectiveProcessor<S> {
         ensures defs { λ _. ⌜ held (now (self .exit) .defines) ≡ held (now (self .entry) .defines) ⌝ }
         ensures stores { λ _. ⌜ Grows (tank (now (meter .entry))) (tank (now (meter .exit))) ⌝ }
     {
-        self.parser.begin(line, location, self.reader.last, true);
-        let value = self.parser.evaluate_expression(&self.defines, meter)?;
-        match self.parser.peek(&self.defines, meter)? {
+        self.parser.begin(location, true);
+        let mut lexer = IfLexer { tokens: line, place: self.reader.last, book: &self.defines };
+        let value = self.parser.evaluate_expression(&mut lexer, meter)?;
+        match self.parser.peek(&mut lexer, meter)? {
             Some(token) => Err(unexpected(token)),
             None => Ok(value != 0),
         }
@@ -166,16 +170,17 @@ impl<S: Source> DirectiveProcessor<S> {
         ensures defs { λ _. ⌜ held (now (self .exit) .defines) ≡ held (now (self .entry) .defines) ⌝ }
         ensures stores { λ _. ⌜ Grows (tank (now (meter .entry))) (tank (now (meter .exit))) ⌝ }
     {
-        self.parser.begin(line, location, self.reader.last, false);
-        let value = self.parser.evaluate_expression(&self.defines, meter)?;
+        self.parser.begin(location, false);
+        let mut lexer = IfLexer { tokens: line, place: self.reader.last, book: &self.defines };
+        let value = self.parser.evaluate_expression(&mut lexer, meter)?;
         if value < 0 || value > 4294967295 {
             return Err(fault(PreprocessorError::LineOverflow, location));
         }
         self.line_offset = value - i64::from(location.line);
-        if self.parser.peek(&self.defines, meter)?.is_some() {
-            let _ = self.parser.evaluate_expression(&self.defines, meter)?;
+        if self.parser.peek(&mut lexer, meter)?.is_some() {
+            let _ = self.parser.evaluate_expression(&mut lexer, meter)?;
         }
-        match self.parser.peek(&self.defines, meter)? {
+        match self.parser.peek(&mut lexer, meter)? {
             Some(token) => Err(unexpected(token)),
             None => Ok(()),
         }

@@ -8,7 +8,7 @@ use crate::processor::DirectiveProcessor;
 use books::Book;
 use books::Feed;
 use books::Handle;
-use conditions::parser::IfParser;
+use conditions::if_parser::IfParser;
 use defines::table::Defines;
 use defines::table::book::DefinesBook;
 use reading::blocks::Blocks;

@@ -1,5 +1,5 @@
 // The directive processor: a source, the definitions, the blocks, and the parser of conditions.
-use conditions::parser::IfParser;
+use conditions::if_parser::IfParser;
 use defines::table::Defines;
 use reading::blocks::Blocks;
 use reading::reader::Reader;

@@ -1,0 +1,61 @@
+// Set-up, next and host definitions.
+use crate::state::Preprocessor;
+use directives::feed::DirectiveProcessorBook;
+use directives::feed::DirectiveProcessorFeed;
+use directives::processor::DirectiveProcessor;
+use expansion::processor::MacroProcessor;
+use sources::source::Source;
+use std::alloc::AllocError;
+use std::alloc::Global;
+use stores::meter::Meter;
+use tokens::fault::Fault;
+use tokens::fault::Step;
+use tokens::fault::StepExit;
+use tokens::lexer::LexerToken;
+use tokens::token::Token;
+
+impl<S: Source + Drop> Preprocessor<S> {
+    // All memory is taken here.
+    pub fn new(heap: Global, source: S, budget: u64) -> Result<Preprocessor<S>, AllocError> {
+        let directives = DirectiveProcessor::new(heap, source)?;
+        let processor = MacroProcessor::new(heap)?;
+        let meter = Meter::new(heap, budget)?;
+        Ok(Preprocessor { directives, processor, meter, fault: None })
+    }
+}
+
+impl<S: Source> Preprocessor<S> {
+    // With nothing in expansion the working tokens of the text are given back first.
+    fn step(&mut self) -> Step<Token> {
+        if self.processor.invocations.len() == 0 {
+            self.meter.clear();
+        }
+        self.processor.step(&mut self.directives, &mut self.meter)
+    }
+
+    // The next token, or none at the end. A fault, once answered, is answered again.
+    pub fn next(&mut self) -> Result<Option<Token>, Fault> {
+        if let Some(fault) = self.fault {
+            return Err(fault);
+        }
+        loop {
+            match self.step() {
+                Ok(token) => return Ok(Some(token)),
+                Err(StepExit::Finished) => return Ok(None),
+                Err(StepExit::Continue) => {}
+                Err(StepExit::Error(fault)) => {
+                    self.fault = Some(fault);
+                    return Err(fault);
+                }
+            }
+        }
+    }
+
+    // A definition that the host makes; refused, it leaves the run as it was.
+    pub fn add_define(&mut self, name: u32, tokens: &[LexerToken]) -> Result<(), Fault> {
+        if let Some(fault) = self.fault {
+            return Err(fault);
+        }
+        self.directives.add_define(name, tokens)
+    }
+}
