@@ -2,11 +2,16 @@
 ghost use mathlib.Core.Path.{_≡_};
 ghost use Rattle.stores.specs.Tank.{tank, Grows, Spends};
 ghost use Rattle.defines.specs.Held.{held};
+ghost use Rattle.expansion.specs.Processor.{view};
+ghost use Rattle.expansion.specs.Sane.{Holds};
+ghost use Rattle.expansion.specs.Moved.{Moved};
 use crate::processor::DirectiveProcessor;
 use books::Book;
+use books::Feed;
 use conditions::if_lexer::IfLexer;
 use conditions::if_lexer::IfLexerBook;
 use conditions::if_lexer::IfLexerFeed;
+use conditions::if_parser::IfParser;
 use defines::table::book::DefinesBook;
 use reading::blocks::DirectiveBlock;
 use reading::convert::fault;
@@ -31,6 +36,17 @@ pub enum Opening {
 
 fn unexpected(token: Token) -> Fault {
     fault(PreprocessorError::UnexpectedToken(token.value), token.location)
+}
+
+// A second expression may follow the line of `#line`; its value is of no account.
+fn pass_second_expression<F: Feed>(parser: &mut IfParser, lexer: &mut F, meter: &mut Meter) -> Result<(), Fault>
+    requires { ⌜ Holds (F·Book .defs (now lexer)) (view (now parser .processor)) ⌝ }
+    ensures { λ _. ⌜ Moved (F·Book .defs (now (lexer .entry))) (view (now (parser .entry) .processor)) (tank (now (meter .entry))) (F·Book .defs (now (lexer .exit))) (view (now (parser .exit) .processor)) (tank (now (meter .exit))) ⌝ }
+{
+    if parser.peek(lexer, meter)?.is_some() {
+        let _ = parser.evaluate_expression(lexer, meter)?;
+    }
+    Ok(())
 }
 
 impl<S: Source> DirectiveProcessor<S> {
@@ -165,7 +181,7 @@ impl<S: Source> DirectiveProcessor<S> {
         }
     }
 
-    // The expressions of a gathered `#line`: the line, and a source number that is of no account.
+    // The expressions of a gathered `#line`.
     fn evaluate_line(&mut self, location: Location, line: Span, meter: &mut Meter) -> Result<(), Fault>
         ensures defs { λ _. ⌜ held (now (self .exit) .defines) ≡ held (now (self .entry) .defines) ⌝ }
         ensures stores { λ _. ⌜ Grows (tank (now (meter .entry))) (tank (now (meter .exit))) ⌝ }
@@ -173,13 +189,11 @@ impl<S: Source> DirectiveProcessor<S> {
         self.parser.begin(location, false);
         let mut lexer = IfLexer { tokens: line, place: self.reader.last, book: &self.defines };
         let value = self.parser.evaluate_expression(&mut lexer, meter)?;
-        if value < 0 || value > 4294967295 {
+        let Ok(number) = u32::try_from(value) else {
             return Err(fault(PreprocessorError::LineOverflow, location));
-        }
-        self.line_offset = value - i64::from(location.line);
-        if self.parser.peek(&mut lexer, meter)?.is_some() {
-            let _ = self.parser.evaluate_expression(&mut lexer, meter)?;
-        }
+        };
+        self.line_offset = i64::from(number) - i64::from(location.line);
+        pass_second_expression(&mut self.parser, &mut lexer, meter)?;
         match self.parser.peek(&mut lexer, meter)? {
             Some(token) => Err(unexpected(token)),
             None => Ok(()),
