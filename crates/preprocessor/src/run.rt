@@ -1,4 +1,10 @@
 // Set-up, next and host definitions.
+ghost use mathlib.Core.Path.{_≡_};
+ghost use Prim.Native.Nat.{ℕ, _-_, _<_, _≤_};
+ghost use Rattle.std.specs.Results.{Cases};
+ghost use Rattle.stores.specs.Tank.{Tank};
+ghost use Rattle.expansion.specs.Moved.{PaysFor};
+ghost use Rattle.preprocessor.specs.Runs.{spentOf};
 use crate::state::Preprocessor;
 use directives::feed::DirectiveProcessorBook;
 use directives::feed::DirectiveProcessorFeed;
@@ -26,7 +32,11 @@ impl<S: Source + Drop> Preprocessor<S> {
 
 impl<S: Source> Preprocessor<S> {
     // With nothing in expansion the working tokens of the text are given back first.
-    fn step(&mut self) -> Step<Token> {
+    fn step(&mut self) -> Step<Token>
+        ensures pays { λ r. ⌜ PaysFor r (spentOf (now (self .entry))) (spentOf (now (self .exit))) ⌝ }
+        ensures budget { λ _. ⌜ spentOf (now (self .exit)) .budget ≡ spentOf (now (self .entry)) .budget ⌝ }
+        ensures moves { λ _. ⌜ spentOf (now (self .entry)) .moves ≤ spentOf (now (self .exit)) .moves ⌝ }
+    {
         if self.processor.invocations.len() == 0 {
             self.meter.clear();
         }
@@ -34,7 +44,10 @@ impl<S: Source> Preprocessor<S> {
     }
 
     // The next token, or none at the end. A fault, once answered, is answered again.
-    pub fn next(&mut self) -> Result<Option<Token>, Fault> {
+    pub fn next(&mut self) -> Result<Option<Token>, Fault>
+        ensures pays { λ r. ⌜ Cases r (λ _. spentOf (now (self .entry)) .moves < spentOf (now (self .exit)) .moves) (λ _. Unit {0}) ⌝ }
+        ensures budget { λ _. ⌜ spentOf (now (self .exit)) .budget ≡ spentOf (now (self .entry)) .budget ⌝ }
+    {
         if let Some(fault) = self.fault {
             return Err(fault);
         }

@@ -9,10 +9,10 @@ use tokens::fault::Fault;
 
 #[derive(Drop)]
 pub struct Preprocessor<S> {
-    directives: DirectiveProcessor<S>,
-    processor: MacroProcessor,
-    meter: Meter,
-    fault: Option<Fault>,
+    pub(crate) directives: DirectiveProcessor<S>,
+    pub(crate) processor: MacroProcessor,
+    pub(crate) meter: Meter,
+    pub(crate) fault: Option<Fault>,
     ghost apart: { Apart (vec-items (processor .invocations)) },
     ghost borne: { Borne (held (directives .defines)) (vec-items (processor .invocations)) },
     ghost forced: { Forced (held (directives .defines)) (vec-items (processor .invocations)) },
