@@ -4,6 +4,7 @@ use mathlib.Core.Path.{_≡_, refl, sym, ap, subst, _∙_}
 use mathlib.Core.Bool.{Bool, true, false}
 use mathlib.Core.List.{List, []}
 use native.Mathlib.Omega.{arith}
+use lib.IntN.{ℤ}
 use Rattle.std.specs.declared.option.Option.{Option}
 use Rattle.std.specs.declared.option.Option.the-variants.{Some, None}
 use Rattle.std.specs.declared.result.Result.{Result}
@@ -22,7 +23,7 @@ use Rattle.expansion.specs.Sane.{Holds}
 use Rattle.expansion.specs.Moved.{Moved}
 use Rattle.expansion.proofs.Motions.{none-moved, then-moved}
 use Rattle.conditions.specs.declared.if_parser.IfParser.{IfParser}
-use Rattle.conditions.specs.Looks.{passing, taken, carries, ahead, Looked, Took, Found, Carried, defines, Settled}
+use Rattle.conditions.specs.Looks.{passing, taken, carries, ahead, Looked, Took, Found, Carried, Tells, defines, Settled}
 
 -- nothing is in expansion, so nothing is asked of the book
 pub fresh-holds : (d : Defs) (gs : List Span) → Holds d (fresh gs)
@@ -86,6 +87,10 @@ failed-found (Err f) m n h = tt
 pub failed-settled : (r : Result (Option Token) Fault) → isErr r ≡ true → Settled r
 failed-settled (Ok x) h = absurd (let z : _≡_ {A = ℕ} 0 1 = cc in omega arith)
 failed-settled (Err f) h = tt
+
+pub failed-tells : (d : Defs) (r : Result ℤ Fault) → isErr r ≡ true → Tells d r
+failed-tells d (Ok x) h = absurd (let z : _≡_ {A = ℕ} 0 1 = cc in omega arith)
+failed-tells d (Err f) h = tt
 
 -- the names of a value that is no name, of `defined`, and of what a name that is no macro stands for
 pub nameless : (v : TokenValue) → ((n : ℕ) → v ≡ value.Ident n → ⊥) → defines (nameIn v)

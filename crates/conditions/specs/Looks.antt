@@ -5,11 +5,14 @@
 -- Looked d p t e q u: from the book d, the parser p and the meter t to e, q and u: what Moved says, the directive's word and kind stay, and `ahead` does not grow
 -- Took r m n: where r is an answer, what was ahead has fallen from m to n; Found r m n: the same where r is a token
 -- Carried o r: a carried token is the answer; Spent r: only spent moves are raised; foundIn r: what a look found; Holding r o: o is the answer
+-- Ended l r: only spent moves and the end of the line are raised; Tells d r: an answer says whether some name is in force in d
 -- Named r, Settled r: the only name in r is `defined`; OfLevel k r: the operator in r is of level k
 use Prim.Native.Nat.{ℕ, _+_, _-_, _<_, _≤_}
 use mathlib.Core.Path.{_≡_}
 use mathlib.Core.Bool.{Bool, true, false, cond}
+use mathlib.Core.Logic.{_⊎_}
 use lib.IntN.{ℤ}
+use Rattle.std.specs.Options.{isSome}
 use Rattle.std.specs.declared.option.Option.{Option}
 use Rattle.std.specs.declared.option.Option.the-variants.{Some, None}
 use Rattle.std.specs.declared.result.Result.{Result}
@@ -21,15 +24,15 @@ use Rattle.tokens.specs.declared.token.TokenValue.the-variants.{Integer}
 use Rattle.tokens.specs.declared.fault.Fault.{Fault}
 use Rattle.tokens.specs.declared.fault.Layer.the-variants.{Conditions}
 use Rattle.tokens.specs.declared.fault.PreprocessorError.{PreprocessorError}
-use Rattle.tokens.specs.declared.fault.PreprocessorError.the-variants.{UnexpectedToken}
+use Rattle.tokens.specs.declared.fault.PreprocessorError.the-variants.{UnexpectedToken, UnexpectedEndOfInput}
 use Rattle.tokens.specs.Faults.{number}
 use Rattle.stores.specs.Tank.{Tank}
 use Rattle.stores.specs.Idents.{identOf}
-use Rattle.books.specs.Book.{Defs}
+use Rattle.books.specs.Book.{Defs, find}
 use Rattle.expansion.specs.Processor.{view}
 use Rattle.expansion.specs.Moved.{Moved}
 use Rattle.conditions.specs.declared.if_parser.IfParser.{IfParser}
-use Rattle.conditions.specs.Calc.{levelOf}
+use Rattle.conditions.specs.Calc.{levelOf, flag}
 
 abbrev pub raised : PreprocessorError → Location → Fault
 raised e l = record { error = e; location = l; layer = Conditions; directive = None }
@@ -78,6 +81,14 @@ Carried None r = Unit {0}
 abbrev pub Spent : {X : Type 0} → Result X Fault → Type 0
 Spent (Ok x) = Unit {0}
 Spent (Err f) = number (f .error) ≡ 40
+
+abbrev pub Ended : {X : Type 0} → Location → Result X Fault → Type 0
+Ended l (Ok x) = Unit {0}
+Ended l (Err f) = (number (f .error) ≡ 40) ⊎ (f ≡ raised UnexpectedEndOfInput l)
+
+abbrev pub Tells : Defs → Result ℤ Fault → Type 0
+Tells d (Ok v) = (n : ℕ) × (v ≡ flag (isSome (find d n)))
+Tells d (Err f) = Unit {0}
 
 abbrev pub foundIn : Result (Option Token) Fault → Option Token
 foundIn (Ok o) = o

@@ -1,5 +1,9 @@
 // A gathered line as a feed, with the definitions of a book.
 ghost use mathlib.Core.Path.{_≡_};
+ghost use Rattle.std.specs.Of.Vec.{vec-items};
+ghost use Rattle.stores.specs.Tank.{tank, Spends, read};
+ghost use Rattle.books.specs.Book.{Grown};
+ghost use Rattle.conditions.specs.Lexer.{lexed, lexedOn};
 use books::Book;
 use books::Feed;
 use books::Handle;
@@ -47,7 +51,12 @@ pub impl<'a, B: Book> Book for IfLexer<'a, B> as IfLexerBook {
 }
 
 pub impl<'a, B: Book> Feed for IfLexer<'a, B> as IfLexerFeed {
-    fn step(&mut self, meter: &mut Meter) -> Step<Token> {
+    fn step(&mut self, meter: &mut Meter) -> Step<Token>
+        ensures handles { λ _. ⌜ Grown (B·Book .defs (now (self .entry) .book .now)) (B·Book .defs (now (self .exit) .book .now)) ⌝ }
+        ensures stores { λ _. ⌜ Spends (tank (now (meter .entry))) (tank (now (meter .exit))) ⌝ }
+        ensures value { λ r. ⌜ r ≡ lexed (read (vec-items (now (meter .entry) .working)) (now (self .entry) .tokens)) ⌝ }
+        ensures after { λ _. ⌜ now (self .exit) .tokens ≡ lexedOn (read (vec-items (now (meter .entry) .working)) (now (self .entry) .tokens)) (now (self .entry) .tokens) ⌝ }
+    {
         match meter.read(self.tokens) {
             Some(t) => {
                 self.tokens = onward(self.tokens);

@@ -5,13 +5,16 @@ ghost use Rattle.std.specs.declared.option.Option.the-variants.{None};
 ghost use Rattle.stores.specs.Tank.{tank};
 ghost use Rattle.expansion.specs.Processor.{view};
 ghost use Rattle.expansion.specs.Sane.{Holds};
-ghost use Rattle.conditions.specs.Looks.{raised, unwanted, located, passing, taken, ahead, Looked, Took, Found, Carried, Spent, foundIn, Holding, Named, Settled, OfLevel};
-ghost use Rattle.conditions.specs.Calc.{calc, signed};
+ghost use Rattle.conditions.specs.Looks.{raised, unwanted, located, passing, taken, ahead, Looked, Took, Found, Carried, Spent, Ended, Tells, foundIn, Holding, Named, Settled, OfLevel};
+ghost use Rattle.std.specs.Options.{isSome};
+ghost use Rattle.books.specs.Book.{find};
+ghost use Rattle.conditions.specs.Calc.{calc, signed, flag};
 use crate::if_parser::IfParser;
 use crate::operators::Sign;
 use crate::operators::apply;
 use crate::operators::apply_sign;
 use crate::operators::level_of;
+use books::Book;
 use books::Feed;
 use stores::meter::Meter;
 use tokens::fault::Fault;
@@ -40,6 +43,13 @@ pub fn unexpected(x: Token) -> Fault
     ensures { λ r. ⌜ r ≡ unwanted x ⌝ }
 {
     fault(PreprocessorError::UnexpectedToken(x.value), x.location)
+}
+
+// 1 for a name in force, else 0.
+fn in_force<B: Book>(book: &B, name: u32) -> i64
+    ensures { λ r. ⌜ r ≡ flag (isSome (find (B·Book .defs (now (book .entry))) name)) ⌝ }
+{
+    book.find(name).is_some() as i64
 }
 
 impl IfParser {
@@ -161,6 +171,7 @@ impl IfParser {
     ) -> Result<Token, Fault>
         ensures looked { λ _. ⌜ Looked (F·Book .defs (now (lexer .entry))) (now (self .entry)) (tank (now (meter .entry))) (F·Book .defs (now (lexer .exit))) (now (self .exit)) (tank (now (meter .exit))) ⌝ }
         ensures took { λ r. ⌜ Took r (ahead (now (self .entry) .carry) (tank (now (meter .entry)))) (ahead (now (self .exit) .carry) (tank (now (meter .exit)))) ⌝ }
+        ensures ended { λ r. ⌜ Ended (now (self .entry) .location) r ⌝ }
     {
         match self.raw_next(lexer, meter)? {
             Some(x) => Ok(x),
@@ -236,17 +247,18 @@ impl IfParser {
         requires { ⌜ Holds (F·Book .defs (now lexer)) (view (now self .processor)) ⌝ }
         ensures looked { λ _. ⌜ Looked (F·Book .defs (now (lexer .entry))) (now (self .entry)) (tank (now (meter .entry))) (F·Book .defs (now (lexer .exit))) (now (self .exit)) (tank (now (meter .exit))) ⌝ }
         ensures took { λ r. ⌜ Took r (ahead (now (self .entry) .carry) (tank (now (meter .entry)))) (ahead (now (self .exit) .carry) (tank (now (meter .exit)))) ⌝ }
+        ensures tells { λ r. ⌜ Tells (F·Book .defs (now (lexer .exit))) r ⌝ }
     {
         let next = self.expect_raw_next(lexer, meter)?;
         match next.value {
-            TokenValue::Ident(name) => Ok(lexer.find(name).is_some() as i64),
+            TokenValue::Ident(name) => Ok(in_force(lexer, name)),
             TokenValue::Punct(Punct::LeftParen) => {
                 let inner = self.expect_raw_next(lexer, meter)?;
                 let TokenValue::Ident(name) = inner.value else {
                     return Err(unexpected(inner));
                 };
                 self.close(lexer, meter)?;
-                Ok(lexer.find(name).is_some() as i64)
+                Ok(in_force(lexer, name))
             }
             _ => Err(unexpected(next)),
         }
