@@ -1,3 +1,2 @@
-pub mod Calc
 pub mod Lexer
 pub mod Looks

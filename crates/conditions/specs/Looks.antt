@@ -32,7 +32,7 @@ use Rattle.books.specs.Book.{Defs, find}
 use Rattle.expansion.specs.Processor.{view}
 use Rattle.expansion.specs.Moved.{Moved}
 use Rattle.conditions.specs.declared.if_parser.IfParser.{IfParser}
-use Rattle.conditions.specs.Calc.{levelOf, flag}
+use Rattle.operators.specs.Calc.{levelOf, flag}
 
 abbrev pub raised : PreprocessorError → Location → Fault
 raised e l = record { error = e; location = l; layer = Conditions; directive = None }

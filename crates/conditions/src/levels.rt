@@ -8,7 +8,7 @@ ghost use Rattle.conditions.specs.Looks.{ahead, Looked, Took};
 use crate::if_parser::IfParser;
 use crate::looks::fault;
 use crate::looks::unexpected;
-use crate::operators::sign_of;
+use operators::sign_of;
 use books::Feed;
 use stores::meter::Meter;
 use tokens::fault::Fault;
@@ -30,10 +30,10 @@ impl IfParser {
         ensures looked { λ _. ⌜ Looked (F·Book .defs (now (lexer .entry))) (now (self .entry)) (tank (now (meter .entry))) (F·Book .defs (now (lexer .exit))) (now (self .exit)) (tank (now (meter .exit))) ⌝ }
         ensures took { λ r. ⌜ Took r (ahead (now (self .entry) .carry) (tank (now (meter .entry)))) (ahead (now (self .exit) .carry) (tank (now (meter .exit)))) ⌝ }
     {
-        self.parse_logical_or(lexer, meter, 0)
+        self.logical_or(lexer, meter, 0)
     }
 
-    fn parse_atom<F: Feed>(
+    fn atom<F: Feed>(
         &mut self,
         lexer: &mut F,
         meter: &mut Meter,
@@ -52,7 +52,7 @@ impl IfParser {
                 if depth >= DEPTH {
                     return Err(fault(PreprocessorError::ConditionTooDeep, x.location));
                 }
-                let v = self.parse_logical_or(lexer, meter, depth + 1)?;
+                let v = self.logical_or(lexer, meter, depth + 1)?;
                 self.close(lexer, meter)?;
                 Ok(v)
             }
@@ -60,7 +60,7 @@ impl IfParser {
         }
     }
 
-    fn parse_unary<F: Feed>(
+    fn unary<F: Feed>(
         &mut self,
         lexer: &mut F,
         meter: &mut Meter,
@@ -72,17 +72,17 @@ impl IfParser {
     {
         let x = self.expect_peek(lexer, meter)?;
         let Some(sign) = sign_of(x.value) else {
-            return self.parse_atom(lexer, meter, depth);
+            return self.atom(lexer, meter, depth);
         };
         self.take();
         if depth >= DEPTH {
             return Err(fault(PreprocessorError::ConditionTooDeep, x.location));
         }
-        let v = self.parse_unary(lexer, meter, depth + 1)?;
+        let v = self.unary(lexer, meter, depth + 1)?;
         self.apply_sign(sign, v)
     }
 
-    fn parse_multiplicative<F: Feed>(
+    fn multiplicative<F: Feed>(
         &mut self,
         lexer: &mut F,
         meter: &mut Meter,
@@ -92,15 +92,15 @@ impl IfParser {
         ensures looked { λ _. ⌜ Looked (F·Book .defs (now (lexer .entry))) (now (self .entry)) (tank (now (meter .entry))) (F·Book .defs (now (lexer .exit))) (now (self .exit)) (tank (now (meter .exit))) ⌝ }
         ensures took { λ r. ⌜ Took r (ahead (now (self .entry) .carry) (tank (now (meter .entry)))) (ahead (now (self .exit) .carry) (tank (now (meter .exit)))) ⌝ }
     {
-        let mut left = self.parse_unary(lexer, meter, depth)?;
+        let mut left = self.unary(lexer, meter, depth)?;
         while let Some(op) = self.take_op(1, lexer, meter)? {
-            let right = self.parse_unary(lexer, meter, depth)?;
+            let right = self.unary(lexer, meter, depth)?;
             left = self.apply(op, left, right)?;
         }
         Ok(left)
     }
 
-    fn parse_additive<F: Feed>(
+    fn additive<F: Feed>(
         &mut self,
         lexer: &mut F,
         meter: &mut Meter,
@@ -110,15 +110,15 @@ impl IfParser {
         ensures looked { λ _. ⌜ Looked (F·Book .defs (now (lexer .entry))) (now (self .entry)) (tank (now (meter .entry))) (F·Book .defs (now (lexer .exit))) (now (self .exit)) (tank (now (meter .exit))) ⌝ }
         ensures took { λ r. ⌜ Took r (ahead (now (self .entry) .carry) (tank (now (meter .entry)))) (ahead (now (self .exit) .carry) (tank (now (meter .exit)))) ⌝ }
     {
-        let mut left = self.parse_multiplicative(lexer, meter, depth)?;
+        let mut left = self.multiplicative(lexer, meter, depth)?;
         while let Some(op) = self.take_op(2, lexer, meter)? {
-            let right = self.parse_multiplicative(lexer, meter, depth)?;
+            let right = self.multiplicative(lexer, meter, depth)?;
             left = self.apply(op, left, right)?;
         }
         Ok(left)
     }
 
-    fn parse_shift<F: Feed>(
+    fn shift<F: Feed>(
         &mut self,
         lexer: &mut F,
         meter: &mut Meter,
@@ -128,15 +128,15 @@ impl IfParser {
         ensures looked { λ _. ⌜ Looked (F·Book .defs (now (lexer .entry))) (now (self .entry)) (tank (now (meter .entry))) (F·Book .defs (now (lexer .exit))) (now (self .exit)) (tank (now (meter .exit))) ⌝ }
         ensures took { λ r. ⌜ Took r (ahead (now (self .entry) .carry) (tank (now (meter .entry)))) (ahead (now (self .exit) .carry) (tank (now (meter .exit)))) ⌝ }
     {
-        let mut left = self.parse_additive(lexer, meter, depth)?;
+        let mut left = self.additive(lexer, meter, depth)?;
         while let Some(op) = self.take_op(3, lexer, meter)? {
-            let right = self.parse_additive(lexer, meter, depth)?;
+            let right = self.additive(lexer, meter, depth)?;
             left = self.apply(op, left, right)?;
         }
         Ok(left)
     }
 
-    fn parse_comparative<F: Feed>(
+    fn comparative<F: Feed>(
         &mut self,
         lexer: &mut F,
         meter: &mut Meter,
@@ -146,15 +146,15 @@ impl IfParser {
         ensures looked { λ _. ⌜ Looked (F·Book .defs (now (lexer .entry))) (now (self .entry)) (tank (now (meter .entry))) (F·Book .defs (now (lexer .exit))) (now (self .exit)) (tank (now (meter .exit))) ⌝ }
         ensures took { λ r. ⌜ Took r (ahead (now (self .entry) .carry) (tank (now (meter .entry)))) (ahead (now (self .exit) .carry) (tank (now (meter .exit)))) ⌝ }
     {
-        let mut left = self.parse_shift(lexer, meter, depth)?;
+        let mut left = self.shift(lexer, meter, depth)?;
         while let Some(op) = self.take_op(4, lexer, meter)? {
-            let right = self.parse_shift(lexer, meter, depth)?;
+            let right = self.shift(lexer, meter, depth)?;
             left = self.apply(op, left, right)?;
         }
         Ok(left)
     }
 
-    fn parse_equality<F: Feed>(
+    fn equality<F: Feed>(
         &mut self,
         lexer: &mut F,
         meter: &mut Meter,
@@ -164,15 +164,15 @@ impl IfParser {
         ensures looked { λ _. ⌜ Looked (F·Book .defs (now (lexer .entry))) (now (self .entry)) (tank (now (meter .entry))) (F·Book .defs (now (lexer .exit))) (now (self .exit)) (tank (now (meter .exit))) ⌝ }
         ensures took { λ r. ⌜ Took r (ahead (now (self .entry) .carry) (tank (now (meter .entry)))) (ahead (now (self .exit) .carry) (tank (now (meter .exit)))) ⌝ }
     {
-        let mut left = self.parse_comparative(lexer, meter, depth)?;
+        let mut left = self.comparative(lexer, meter, depth)?;
         while let Some(op) = self.take_op(5, lexer, meter)? {
-            let right = self.parse_comparative(lexer, meter, depth)?;
+            let right = self.comparative(lexer, meter, depth)?;
             left = self.apply(op, left, right)?;
         }
         Ok(left)
     }
 
-    fn parse_bit_and<F: Feed>(
+    fn bit_and<F: Feed>(
         &mut self,
         lexer: &mut F,
         meter: &mut Meter,
@@ -182,15 +182,15 @@ impl IfParser {
         ensures looked { λ _. ⌜ Looked (F·Book .defs (now (lexer .entry))) (now (self .entry)) (tank (now (meter .entry))) (F·Book .defs (now (lexer .exit))) (now (self .exit)) (tank (now (meter .exit))) ⌝ }
         ensures took { λ r. ⌜ Took r (ahead (now (self .entry) .carry) (tank (now (meter .entry)))) (ahead (now (self .exit) .carry) (tank (now (meter .exit)))) ⌝ }
     {
-        let mut left = self.parse_equality(lexer, meter, depth)?;
+        let mut left = self.equality(lexer, meter, depth)?;
         while let Some(op) = self.take_op(6, lexer, meter)? {
-            let right = self.parse_equality(lexer, meter, depth)?;
+            let right = self.equality(lexer, meter, depth)?;
             left = self.apply(op, left, right)?;
         }
         Ok(left)
     }
 
-    fn parse_bit_xor<F: Feed>(
+    fn bit_xor<F: Feed>(
         &mut self,
         lexer: &mut F,
         meter: &mut Meter,
@@ -200,15 +200,15 @@ impl IfParser {
         ensures looked { λ _. ⌜ Looked (F·Book .defs (now (lexer .entry))) (now (self .entry)) (tank (now (meter .entry))) (F·Book .defs (now (lexer .exit))) (now (self .exit)) (tank (now (meter .exit))) ⌝ }
         ensures took { λ r. ⌜ Took r (ahead (now (self .entry) .carry) (tank (now (meter .entry)))) (ahead (now (self .exit) .carry) (tank (now (meter .exit)))) ⌝ }
     {
-        let mut left = self.parse_bit_and(lexer, meter, depth)?;
+        let mut left = self.bit_and(lexer, meter, depth)?;
         while let Some(op) = self.take_op(7, lexer, meter)? {
-            let right = self.parse_bit_and(lexer, meter, depth)?;
+            let right = self.bit_and(lexer, meter, depth)?;
             left = self.apply(op, left, right)?;
         }
         Ok(left)
     }
 
-    fn parse_bit_or<F: Feed>(
+    fn bit_or<F: Feed>(
         &mut self,
         lexer: &mut F,
         meter: &mut Meter,
@@ -218,15 +218,15 @@ impl IfParser {
         ensures looked { λ _. ⌜ Looked (F·Book .defs (now (lexer .entry))) (now (self .entry)) (tank (now (meter .entry))) (F·Book .defs (now (lexer .exit))) (now (self .exit)) (tank (now (meter .exit))) ⌝ }
         ensures took { λ r. ⌜ Took r (ahead (now (self .entry) .carry) (tank (now (meter .entry)))) (ahead (now (self .exit) .carry) (tank (now (meter .exit)))) ⌝ }
     {
-        let mut left = self.parse_bit_xor(lexer, meter, depth)?;
+        let mut left = self.bit_xor(lexer, meter, depth)?;
         while let Some(op) = self.take_op(8, lexer, meter)? {
-            let right = self.parse_bit_xor(lexer, meter, depth)?;
+            let right = self.bit_xor(lexer, meter, depth)?;
             left = self.apply(op, left, right)?;
         }
         Ok(left)
     }
 
-    fn parse_logical_and<F: Feed>(
+    fn logical_and<F: Feed>(
         &mut self,
         lexer: &mut F,
         meter: &mut Meter,
@@ -236,15 +236,15 @@ impl IfParser {
         ensures looked { λ _. ⌜ Looked (F·Book .defs (now (lexer .entry))) (now (self .entry)) (tank (now (meter .entry))) (F·Book .defs (now (lexer .exit))) (now (self .exit)) (tank (now (meter .exit))) ⌝ }
         ensures took { λ r. ⌜ Took r (ahead (now (self .entry) .carry) (tank (now (meter .entry)))) (ahead (now (self .exit) .carry) (tank (now (meter .exit)))) ⌝ }
     {
-        let mut left = self.parse_bit_or(lexer, meter, depth)?;
+        let mut left = self.bit_or(lexer, meter, depth)?;
         while let Some(op) = self.take_op(9, lexer, meter)? {
-            let right = self.parse_bit_or(lexer, meter, depth)?;
+            let right = self.bit_or(lexer, meter, depth)?;
             left = self.apply(op, left, right)?;
         }
         Ok(left)
     }
 
-    fn parse_logical_or<F: Feed>(
+    fn logical_or<F: Feed>(
         &mut self,
         lexer: &mut F,
         meter: &mut Meter,
@@ -254,9 +254,9 @@ impl IfParser {
         ensures looked { λ _. ⌜ Looked (F·Book .defs (now (lexer .entry))) (now (self .entry)) (tank (now (meter .entry))) (F·Book .defs (now (lexer .exit))) (now (self .exit)) (tank (now (meter .exit))) ⌝ }
         ensures took { λ r. ⌜ Took r (ahead (now (self .entry) .carry) (tank (now (meter .entry)))) (ahead (now (self .exit) .carry) (tank (now (meter .exit)))) ⌝ }
     {
-        let mut left = self.parse_logical_and(lexer, meter, depth)?;
+        let mut left = self.logical_and(lexer, meter, depth)?;
         while let Some(op) = self.take_op(10, lexer, meter)? {
-            let right = self.parse_logical_and(lexer, meter, depth)?;
+            let right = self.logical_and(lexer, meter, depth)?;
             left = self.apply(op, left, right)?;
         }
         Ok(left)

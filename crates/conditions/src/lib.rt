@@ -3,5 +3,4 @@ pub mod if_lexer;
 pub mod if_parser;
 pub mod levels;
 pub mod looks;
-pub mod operators;
 pub mod setup;

@@ -1,7 +1,7 @@
 // The operators of a condition: their levels, and what they make of signed 64-bit values.
 ghost use mathlib.Core.Path.{_≡_};
 ghost use lib.IntN.{ℤ, negℤ};
-ghost use Rattle.conditions.specs.Calc.{levelOf, calc, fitted, signIn, signed};
+ghost use Rattle.operators.specs.Calc.{levelOf, calc, fitted, signIn, signed};
 use tokens::fault::PreprocessorError;
 use tokens::punct::Punct;
 use tokens::token::TokenValue;

@@ -21,8 +21,8 @@ use Rattle.tokens.specs.declared.token.TokenValue.{TokenValue}
 use Rattle.tokens.specs.declared.token.TokenValue.the-variants as value
 use Rattle.tokens.specs.declared.punct.Punct.{Punct}
 use Rattle.tokens.specs.declared.punct.Punct.the-variants as punct
-use Rattle.conditions.specs.declared.operators.Sign.{Sign}
-use Rattle.conditions.specs.declared.operators.Sign.the-variants as sign
+use Rattle.operators.specs.declared.Sign.{Sign}
+use Rattle.operators.specs.declared.Sign.the-variants as sign
 
 abbrev pub levelOf : Punct → ℕ
 levelOf punct.AddAssign = 0
