@@ -1,4 +1,5 @@
 // The directive processor: a source, the definitions, the blocks, and the parser of conditions.
+ghost use Rattle.defines.specs.Held.{Settled};
 use conditions::if_parser::IfParser;
 use defines::table::Defines;
 use reading::blocks::Blocks;
@@ -14,4 +15,5 @@ pub struct DirectiveProcessor<S> {
     pub line_offset: i64,
     pub had_directive: bool,
     pub had_non_directive_token: bool,
+    ghost settled: { Settled defines },
 }

@@ -6,7 +6,7 @@ ghost use Rattle.std.specs.Results.{Cases};
 ghost use Rattle.tokens.specs.Places.{origin};
 ghost use Rattle.sources.specs.Source.{read, after};
 ghost use Rattle.stores.specs.Tank.{tank, Grows};
-ghost use Rattle.defines.specs.Held.{held};
+ghost use Rattle.defines.specs.Held.{ReadOn};
 ghost use Rattle.reading.specs.Reads.{told};
 use crate::convert::Converted;
 use crate::convert::convert_lexer_token;
@@ -110,7 +110,7 @@ impl<S: Source> Reader<S> {
 
     // This token and the rest of the line are kept.
     pub fn keep_until_newline(&mut self, first: LexerToken, defines: &mut Defines) -> Step<()>
-        ensures { λ _. ⌜ held (now (defines .exit)) ≡ held (now (defines .entry)) ⌝ }
+        ensures { λ _. ⌜ ReadOn (now (defines .entry)) (now (defines .exit)) ⌝ }
     {
         let mut token = first;
         loop {
