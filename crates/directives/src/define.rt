@@ -3,7 +3,7 @@ ghost use mathlib.Core.Path.{_≡_};
 ghost use Rattle.std.specs.Results.{Cases};
 ghost use Rattle.books.specs.Book.{Grown, Kept};
 ghost use Rattle.defines.specs.Held.{held};
-ghost use Rattle.directives.specs.Unchanged.{Same};
+ghost use Rattle.directives.specs.Unchanged.{Same, Beside};
 use crate::processor::DirectiveProcessor;
 use reading::convert::fault;
 use reading::definitions::accept_define;
@@ -49,6 +49,7 @@ impl<S: Source> DirectiveProcessor<S> {
         ensures handles { λ _. ⌜ Grown (held (now (self .entry) .defines)) (held (now (self .exit) .defines)) ⌝ }
         ensures names { λ _. ⌜ Kept (held (now (self .entry) .defines)) (held (now (self .exit) .defines)) ⌝ }
         ensures refused { λ r. ⌜ Cases r (λ _. Unit {0}) (λ _. Same (now (self .entry) .defines) (now (self .exit) .defines)) ⌝ }
+        ensures others { λ _. ⌜ Beside (now (self .entry)) (now (self .exit)) ⌝ }
     {
         self.defines.begin();
         if let Err(f) = keep_tokens(&mut self.defines, tokens) {

@@ -4,7 +4,9 @@ ghost use Prim.Native.Nat.{ℕ, _-_, _<_, _≤_};
 ghost use Rattle.std.specs.Results.{Cases};
 ghost use Rattle.stores.specs.Tank.{Tank};
 ghost use Rattle.expansion.specs.Moved.{PaysFor};
-ghost use Rattle.preprocessor.specs.Runs.{spentOf};
+ghost use Rattle.std.specs.declared.option.Option.the-variants.{Some, None};
+ghost use Rattle.books.specs.Book.{Grown, Kept};
+ghost use Rattle.preprocessor.specs.Runs.{spentOf, bookOf, Repeats, Still, Refused};
 use crate::state::Preprocessor;
 use directives::feed::DirectiveProcessorBook;
 use directives::feed::DirectiveProcessorFeed;
@@ -36,6 +38,7 @@ impl<S: Source> Preprocessor<S> {
         ensures pays { λ r. ⌜ PaysFor r (spentOf (now (self .entry))) (spentOf (now (self .exit))) ⌝ }
         ensures budget { λ _. ⌜ spentOf (now (self .exit)) .budget ≡ spentOf (now (self .entry)) .budget ⌝ }
         ensures moves { λ _. ⌜ spentOf (now (self .entry)) .moves ≤ spentOf (now (self .exit)) .moves ⌝ }
+        ensures fault { λ _. ⌜ now (self .exit) .fault ≡ now (self .entry) .fault ⌝ }
     {
         if self.processor.invocations.len() == 0 {
             self.meter.clear();
@@ -47,6 +50,9 @@ impl<S: Source> Preprocessor<S> {
     pub fn next(&mut self) -> Result<Option<Token>, Fault>
         ensures pays { λ r. ⌜ Cases r (λ _. spentOf (now (self .entry)) .moves < spentOf (now (self .exit)) .moves) (λ _. Unit {0}) ⌝ }
         ensures budget { λ _. ⌜ spentOf (now (self .exit)) .budget ≡ spentOf (now (self .entry)) .budget ⌝ }
+        ensures repeats { λ r. ⌜ Repeats (now (self .entry) .fault) r ⌝ }
+        ensures still { λ _. ⌜ Still (now (self .entry) .fault) (now (self .entry)) (now (self .exit)) ⌝ }
+        ensures answered { λ r. ⌜ Cases r (λ _. now (self .exit) .fault ≡ None) (λ f. now (self .exit) .fault ≡ Some f) ⌝ }
     {
         if let Some(fault) = self.fault {
             return Err(fault);
@@ -65,7 +71,12 @@ impl<S: Source> Preprocessor<S> {
     }
 
     // A definition that the host makes; refused, it leaves the run as it was.
-    pub fn add_define(&mut self, name: u32, tokens: &[LexerToken]) -> Result<(), Fault> {
+    pub fn add_define(&mut self, name: u32, tokens: &[LexerToken]) -> Result<(), Fault>
+        ensures repeats { λ r. ⌜ Repeats (now (self .entry) .fault) r ⌝ }
+        ensures refused { λ r. ⌜ Cases r (λ _. Unit {0}) (λ _. Refused (now (self .entry)) (now (self .exit))) ⌝ }
+        ensures handles { λ _. ⌜ Grown (bookOf (now (self .entry))) (bookOf (now (self .exit))) ⌝ }
+        ensures names { λ _. ⌜ Kept (bookOf (now (self .entry))) (bookOf (now (self .exit))) ⌝ }
+    {
         if let Some(fault) = self.fault {
             return Err(fault);
         }
