@@ -1,0 +1,5 @@
+#if 1
+A
+#else
+B
+#endif

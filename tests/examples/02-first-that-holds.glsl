@@ -1,0 +1,7 @@
+#if 0
+A
+#elif 1
+B
+#elif 1
+C
+#endif

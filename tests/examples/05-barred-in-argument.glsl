@@ -1,0 +1,3 @@
+#define id(x) x
+#define foo bar foo
+id(foo)

@@ -1,0 +1,2 @@
+#define f(x) x
+f + f(2)

@@ -1,0 +1,4 @@
+#define f(x) x
+f(
+#undef f
+3)

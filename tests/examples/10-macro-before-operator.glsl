@@ -1,0 +1,4 @@
+#define A 2
+#if A * 2 == 4
+B
+#endif

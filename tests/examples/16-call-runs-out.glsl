@@ -1,0 +1,2 @@
+#define f(x) x
+#if f(1

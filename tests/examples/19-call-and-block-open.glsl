@@ -1,0 +1,3 @@
+#define f(x) x
+#if 1
+f(1

@@ -1,0 +1,3 @@
+#define SUPPLY_A1 1
+#define SUPPLY_A2 2
+SUPPLY_A1 SUPPLY_A2

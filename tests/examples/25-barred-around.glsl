@@ -1,0 +1,3 @@
+#define id(x) x
+#define foo id(foo) bar
+foo
