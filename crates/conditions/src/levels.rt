@@ -8,8 +8,8 @@ ghost use Rattle.conditions.specs.Looks.{ahead, Looked, Took};
 use crate::if_parser::IfParser;
 use crate::looks::fault;
 use crate::looks::unexpected;
-use operators::sign_of;
 use books::Feed;
+use operators::sign_of;
 use stores::meter::Meter;
 use tokens::fault::Fault;
 use tokens::fault::PreprocessorError;
@@ -33,12 +33,7 @@ impl IfParser {
         self.logical_or(lexer, meter, 0)
     }
 
-    fn atom<F: Feed>(
-        &mut self,
-        lexer: &mut F,
-        meter: &mut Meter,
-        depth: u32,
-    ) -> Result<i64, Fault>
+    fn atom<F: Feed>(&mut self, lexer: &mut F, meter: &mut Meter, depth: u32) -> Result<i64, Fault>
         requires { ⌜ Holds (F·Book .defs (now lexer)) (view (now self .processor)) ⌝ }
         ensures looked { λ _. ⌜ Looked (F·Book .defs (now (lexer .entry))) (now (self .entry)) (tank (now (meter .entry))) (F·Book .defs (now (lexer .exit))) (now (self .exit)) (tank (now (meter .exit))) ⌝ }
         ensures took { λ r. ⌜ Took r (ahead (now (self .entry) .carry) (tank (now (meter .entry)))) (ahead (now (self .exit) .carry) (tank (now (meter .exit)))) ⌝ }
@@ -60,12 +55,7 @@ impl IfParser {
         }
     }
 
-    fn unary<F: Feed>(
-        &mut self,
-        lexer: &mut F,
-        meter: &mut Meter,
-        depth: u32,
-    ) -> Result<i64, Fault>
+    fn unary<F: Feed>(&mut self, lexer: &mut F, meter: &mut Meter, depth: u32) -> Result<i64, Fault>
         requires { ⌜ Holds (F·Book .defs (now lexer)) (view (now self .processor)) ⌝ }
         ensures looked { λ _. ⌜ Looked (F·Book .defs (now (lexer .entry))) (now (self .entry)) (tank (now (meter .entry))) (F·Book .defs (now (lexer .exit))) (now (self .exit)) (tank (now (meter .exit))) ⌝ }
         ensures took { λ r. ⌜ Took r (ahead (now (self .entry) .carry) (tank (now (meter .entry)))) (ahead (now (self .exit) .carry) (tank (now (meter .exit)))) ⌝ }
@@ -118,12 +108,7 @@ impl IfParser {
         Ok(left)
     }
 
-    fn shift<F: Feed>(
-        &mut self,
-        lexer: &mut F,
-        meter: &mut Meter,
-        depth: u32,
-    ) -> Result<i64, Fault>
+    fn shift<F: Feed>(&mut self, lexer: &mut F, meter: &mut Meter, depth: u32) -> Result<i64, Fault>
         requires { ⌜ Holds (F·Book .defs (now lexer)) (view (now self .processor)) ⌝ }
         ensures looked { λ _. ⌜ Looked (F·Book .defs (now (lexer .entry))) (now (self .entry)) (tank (now (meter .entry))) (F·Book .defs (now (lexer .exit))) (now (self .exit)) (tank (now (meter .exit))) ⌝ }
         ensures took { λ r. ⌜ Took r (ahead (now (self .entry) .carry) (tank (now (meter .entry)))) (ahead (now (self .exit) .carry) (tank (now (meter .exit)))) ⌝ }

@@ -35,11 +35,18 @@ pub enum Opening {
 }
 
 fn unexpected(token: Token) -> Fault {
-    fault(PreprocessorError::UnexpectedToken(token.value), token.location)
+    fault(
+        PreprocessorError::UnexpectedToken(token.value),
+        token.location,
+    )
 }
 
 // A second expression may follow the line of `#line`; its value is of no account.
-fn pass_second_expression<F: Feed>(parser: &mut IfParser, lexer: &mut F, meter: &mut Meter) -> Result<(), Fault>
+fn pass_second_expression<F: Feed>(
+    parser: &mut IfParser,
+    lexer: &mut F,
+    meter: &mut Meter,
+) -> Result<(), Fault>
     requires { ⌜ Holds (F·Book .defs (now lexer)) (view (now parser .processor)) ⌝ }
     ensures { λ _. ⌜ Moved (F·Book .defs (now (lexer .entry))) (view (now (parser .entry) .processor)) (tank (now (meter .entry))) (F·Book .defs (now (lexer .exit))) (view (now (parser .exit) .processor)) (tank (now (meter .exit))) ⌝ }
 {
@@ -51,12 +58,21 @@ fn pass_second_expression<F: Feed>(parser: &mut IfParser, lexer: &mut F, meter: 
 
 impl<S: Source> DirectiveProcessor<S> {
     // Whether the gathered line holds; nothing may be left over.
-    fn evaluate_if_expression(&mut self, location: Location, line: Span, meter: &mut Meter) -> Result<bool, Fault>
+    fn evaluate_if_expression(
+        &mut self,
+        location: Location,
+        line: Span,
+        meter: &mut Meter,
+    ) -> Result<bool, Fault>
         ensures defs { λ _. ⌜ held (now (self .exit) .defines) ≡ held (now (self .entry) .defines) ⌝ }
         ensures stores { λ _. ⌜ Grows (tank (now (meter .entry))) (tank (now (meter .exit))) ⌝ }
     {
         self.parser.begin(location, true);
-        let mut lexer = IfLexer { tokens: line, place: self.reader.last, book: &self.defines };
+        let mut lexer = IfLexer {
+            tokens: line,
+            place: self.reader.last,
+            book: &self.defines,
+        };
         let value = self.parser.evaluate_expression(&mut lexer, meter)?;
         match self.parser.peek(&mut lexer, meter)? {
             Some(token) => Err(unexpected(token)),
@@ -112,41 +128,72 @@ impl<S: Source> DirectiveProcessor<S> {
     }
 
     // In dead text a block is only counted; in live text its condition is worked out first.
-    pub fn parse_if_like_directive(&mut self, opening: Opening, directive_location: Location, meter: &mut Meter) -> Step<()>
+    pub fn parse_if_like_directive(
+        &mut self,
+        opening: Opening,
+        directive_location: Location,
+        meter: &mut Meter,
+    ) -> Step<()>
         ensures defs { λ _. ⌜ held (now (self .exit) .defines) ≡ held (now (self .entry) .defines) ⌝ }
         ensures stores { λ _. ⌜ Spends (tank (now (meter .entry))) (tank (now (meter .exit))) ⌝ }
     {
         if self.blocks.skipping {
             self.begin_block(
-                DirectiveBlock { start_location: directive_location, had_valid_segment: false, had_else: false, outer_skipped: true },
+                DirectiveBlock {
+                    start_location: directive_location,
+                    had_valid_segment: false,
+                    had_else: false,
+                    outer_skipped: true,
+                },
                 true,
             )?;
             return self.reader.consume_until_newline();
         }
         let holds = self.opens(opening, directive_location, meter)?;
         self.begin_block(
-            DirectiveBlock { start_location: directive_location, had_valid_segment: holds, had_else: false, outer_skipped: false },
+            DirectiveBlock {
+                start_location: directive_location,
+                had_valid_segment: holds,
+                had_else: false,
+                outer_skipped: false,
+            },
             !holds,
         )
     }
 
     // The structure is tested even in dead text; the condition only where it is needed.
-    pub fn parse_elif_directive(&mut self, directive_location: Location, meter: &mut Meter) -> Step<()>
+    pub fn parse_elif_directive(
+        &mut self,
+        directive_location: Location,
+        meter: &mut Meter,
+    ) -> Step<()>
         ensures defs { λ _. ⌜ held (now (self .exit) .defines) ≡ held (now (self .entry) .defines) ⌝ }
         ensures stores { λ _. ⌜ Spends (tank (now (meter .entry))) (tank (now (meter .exit))) ⌝ }
     {
         self.blocks.skipping = true;
         let Some(block) = self.blocks.top() else {
-            return Err(StepExit::Error(fault(PreprocessorError::ElifOutsideOfBlock, directive_location)));
+            return Err(StepExit::Error(fault(
+                PreprocessorError::ElifOutsideOfBlock,
+                directive_location,
+            )));
         };
         if block.had_else {
-            return Err(StepExit::Error(fault(PreprocessorError::ElifAfterElse, directive_location)));
+            return Err(StepExit::Error(fault(
+                PreprocessorError::ElifAfterElse,
+                directive_location,
+            )));
         }
         if block.outer_skipped || block.had_valid_segment {
             return self.reader.consume_until_newline();
         }
         if self.condition(directive_location, meter)? {
-            self.blocks.change(DirectiveBlock { had_valid_segment: true, ..block }, false);
+            self.blocks.change(
+                DirectiveBlock {
+                    had_valid_segment: true,
+                    ..block
+                },
+                false,
+            );
         }
         Ok(())
     }
@@ -156,13 +203,25 @@ impl<S: Source> DirectiveProcessor<S> {
     {
         self.reader.expect_newline(directive_location)?;
         let Some(block) = self.blocks.top() else {
-            return Err(StepExit::Error(fault(PreprocessorError::ElseOutsideOfBlock, directive_location)));
+            return Err(StepExit::Error(fault(
+                PreprocessorError::ElseOutsideOfBlock,
+                directive_location,
+            )));
         };
         if block.had_else {
-            return Err(StepExit::Error(fault(PreprocessorError::MoreThanOneElse, directive_location)));
+            return Err(StepExit::Error(fault(
+                PreprocessorError::MoreThanOneElse,
+                directive_location,
+            )));
         }
         let skipping = block.outer_skipped || block.had_valid_segment;
-        self.blocks.change(DirectiveBlock { had_else: true, ..block }, skipping);
+        self.blocks.change(
+            DirectiveBlock {
+                had_else: true,
+                ..block
+            },
+            skipping,
+        );
         Ok(())
     }
 
@@ -171,7 +230,10 @@ impl<S: Source> DirectiveProcessor<S> {
         ensures { λ _. ⌜ held (now (self .exit) .defines) ≡ held (now (self .entry) .defines) ⌝ }
     {
         let Some(block) = self.blocks.close() else {
-            return Err(StepExit::Error(fault(PreprocessorError::EndifOutsideOfBlock, directive_location)));
+            return Err(StepExit::Error(fault(
+                PreprocessorError::EndifOutsideOfBlock,
+                directive_location,
+            )));
         };
         self.blocks.skipping = block.outer_skipped;
         if block.outer_skipped {
@@ -182,12 +244,21 @@ impl<S: Source> DirectiveProcessor<S> {
     }
 
     // The expressions of a gathered `#line`.
-    fn evaluate_line(&mut self, location: Location, line: Span, meter: &mut Meter) -> Result<(), Fault>
+    fn evaluate_line(
+        &mut self,
+        location: Location,
+        line: Span,
+        meter: &mut Meter,
+    ) -> Result<(), Fault>
         ensures defs { λ _. ⌜ held (now (self .exit) .defines) ≡ held (now (self .entry) .defines) ⌝ }
         ensures stores { λ _. ⌜ Grows (tank (now (meter .entry))) (tank (now (meter .exit))) ⌝ }
     {
         self.parser.begin(location, false);
-        let mut lexer = IfLexer { tokens: line, place: self.reader.last, book: &self.defines };
+        let mut lexer = IfLexer {
+            tokens: line,
+            place: self.reader.last,
+            book: &self.defines,
+        };
         let value = self.parser.evaluate_expression(&mut lexer, meter)?;
         let Ok(number) = u32::try_from(value) else {
             return Err(fault(PreprocessorError::LineOverflow, location));
@@ -200,7 +271,11 @@ impl<S: Source> DirectiveProcessor<S> {
         }
     }
 
-    pub fn parse_line_directive(&mut self, directive_location: Location, meter: &mut Meter) -> Step<()>
+    pub fn parse_line_directive(
+        &mut self,
+        directive_location: Location,
+        meter: &mut Meter,
+    ) -> Step<()>
         ensures defs { λ _. ⌜ held (now (self .exit) .defines) ≡ held (now (self .entry) .defines) ⌝ }
         ensures stores { λ _. ⌜ Spends (tank (now (meter .entry))) (tank (now (meter .exit))) ⌝ }
     {

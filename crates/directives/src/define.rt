@@ -25,7 +25,12 @@ impl<S: Source> DirectiveProcessor<S> {
         let (name, name_location) = self.reader.expect_lexer_ident(directive_location)?;
         self.defines.begin();
         match self.reader.read_define(&mut self.defines) {
-            Ok(function_like) => match accept_define(&mut self.defines, name, function_like, name_location) {
+            Ok(function_like) => match accept_define(
+                &mut self.defines,
+                name,
+                function_like,
+                name_location,
+            ) {
                 Ok(()) => Ok(()),
                 Err(f) => Err(StepExit::Error(f)),
             },

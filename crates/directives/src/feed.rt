@@ -96,7 +96,10 @@ pub impl<S: Source> Feed for DirectiveProcessor<S> as DirectiveProcessorFeed {
     fn step(&mut self, meter: &mut Meter) -> Step<Token> {
         match self.step_text(meter) {
             Err(StepExit::Finished) => match self.blocks.close() {
-                Some(block) => Err(StepExit::Error(fault(PreprocessorError::UnfinishedBlock, block.start_location))),
+                Some(block) => Err(StepExit::Error(fault(
+                    PreprocessorError::UnfinishedBlock,
+                    block.start_location,
+                ))),
                 None => Err(StepExit::Finished),
             },
             step => step,

@@ -34,7 +34,14 @@ impl<S: Source> DirectiveProcessor<S> {
         let is_first_directive = !(self.had_directive || self.had_non_directive_token);
         let tokens = self.keep_line()?;
         let has_comments_before = self.reader.source.had_comments();
-        Ok(Token { value: TokenValue::Version(Version { tokens, is_first_directive, has_comments_before }), location })
+        Ok(Token {
+            value: TokenValue::Version(Version {
+                tokens,
+                is_first_directive,
+                has_comments_before,
+            }),
+            location,
+        })
     }
 
     pub fn parse_extension_directive(&mut self, location: Location) -> Step<Token>
@@ -42,13 +49,22 @@ impl<S: Source> DirectiveProcessor<S> {
     {
         let has_non_directive_before = self.had_non_directive_token;
         let tokens = self.keep_line()?;
-        Ok(Token { value: TokenValue::Extension(Extension { tokens, has_non_directive_before }), location })
+        Ok(Token {
+            value: TokenValue::Extension(Extension {
+                tokens,
+                has_non_directive_before,
+            }),
+            location,
+        })
     }
 
     pub fn parse_pragma_directive(&mut self, location: Location) -> Step<Token>
         ensures { λ _. ⌜ held (now (self .exit) .defines) ≡ held (now (self .entry) .defines) ⌝ }
     {
         let tokens = self.keep_line()?;
-        Ok(Token { value: TokenValue::Pragma(Pragma { tokens }), location })
+        Ok(Token {
+            value: TokenValue::Pragma(Pragma { tokens }),
+            location,
+        })
     }
 }

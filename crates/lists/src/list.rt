@@ -14,7 +14,12 @@ use std::io::Write;
 use tokens::fault::Refusal;
 
 // Every token that passes, then the end or the fault.
-fn list_run<S: Source, W: Write>(heap: Global, names: &Names, run: &mut Preprocessor<S>, out: &mut W) -> io::Result<()> {
+fn list_run<S: Source, W: Write>(
+    heap: Global,
+    names: &Names,
+    run: &mut Preprocessor<S>,
+    out: &mut W,
+) -> io::Result<()> {
     loop {
         match run.next() {
             Ok(Some(token)) => out.write_all(&token_line(heap, names, token)?)?,

@@ -16,7 +16,12 @@ fn passed(heap: Global, word: &str, tokens: Part) -> Result<String, AllocError> 
 }
 
 // A value as GLSL spells it: names and punctuation as they are, integers in decimal, floats by their bits.
-fn spell(heap: Global, names: &Names, value: TokenValue, out: &mut Vec<u8>) -> Result<(), AllocError> {
+fn spell(
+    heap: Global,
+    names: &Names,
+    value: TokenValue,
+    out: &mut Vec<u8>,
+) -> Result<(), AllocError> {
     match value {
         TokenValue::Ident(name) => match names.bytes_of(name) {
             Some(bytes) => out.extend_from_slice(bytes),
@@ -31,9 +36,21 @@ fn spell(heap: Global, names: &Names, value: TokenValue, out: &mut Vec<u8>) -> R
             let bits = f.bits;
             out.extend_from_slice(format!(heap, "f{bits:08x}")?.as_bytes())
         }
-        TokenValue::Version(v) => out.extend_from_slice(passed(heap, "version", v.tokens)?.as_bytes()),
-        TokenValue::Extension(e) => out.extend_from_slice(passed(heap, "extension", e.tokens)?.as_bytes()),
-        TokenValue::Pragma(p) => out.extend_from_slice(passed(heap, "pragma", p.tokens)?.as_bytes()),
+        TokenValue::Version(v) => out.extend_from_slice(passed(
+            heap,
+            "version",
+            v.tokens,
+        )?.as_bytes()),
+        TokenValue::Extension(e) => out.extend_from_slice(passed(
+            heap,
+            "extension",
+            e.tokens,
+        )?.as_bytes()),
+        TokenValue::Pragma(p) => out.extend_from_slice(passed(
+            heap,
+            "pragma",
+            p.tokens,
+        )?.as_bytes()),
     }
 }
 

@@ -32,7 +32,8 @@ module _ (d : Defs) (us : List DefineInvocation) (bs : List Pending) where
     force = f;
     calls = λ i h. enters d us (getD bs i idle .end) (getD bs i idle .call .callee) (k i h) (u i h) (l i h);
     within = w;
-    rising = r }
+    rising = r;
+  }
 
   waits : (f : Phase) → WaitsKnown d f → WaitsUnused us f → WaitsAllowed d us f → Waits d us f
   waits Plain k u l = tt
@@ -60,16 +61,37 @@ module _ (d : Defs) (us : List DefineInvocation) (bs : List Pending) where
   pub facts : (f : Phase) → Sane d us bs × Waits d us f → Facts f
   facts f h =
       let s = h .0 in
-      let w = free-of f (h .1) in
-      ((λ i j t. s .apart i j (t .before) (t .inside) (t .same)),
-      ((λ i l. (s .bears i l .known, s .bears i l .named)),
-      (s .force,
-      (s .within,
-      (s .rising,
-      ((λ i l. (s .calls i l .bears .known, s .calls i l .bears .named)),
-      ((λ i l. s .calls i l .free),
-      ((λ i l. allows d (getD bs i idle .end) (getD bs i idle .call .callee .name) (s .calls i l .force)),
-      ((λ v e. (w v e .bears .known, w v e .bears .named)),
-      ((λ v e. w v e .free),
-      ((λ v e. allows d (length us) (v .name) (w v e .force)),
-      tt)))))))))))
+      let w = free-of f (h .1) in (
+        (λ i j t. s .apart i j (t .before) (t .inside) (t .same)),
+        (
+          (λ i l. (s .bears i l .known, s .bears i l .named)),
+          (
+            s .force,
+            (
+              s .within,
+              (
+                s .rising,
+                (
+                  (λ i l. (s .calls i l .bears .known, s .calls i l .bears .named)),
+                  (
+                    (λ i l. s .calls i l .free),
+                    (
+                      (λ i l. allows d (getD bs i idle .end) (getD bs i idle .call .callee .name) (s .calls i l .force)),
+                      (
+                        (λ v e. (w v e .bears .known, w v e .bears .named)),
+                        (
+                          (λ v e. w v e .free),
+                          (
+                            (λ v e. allows d (length us) (v .name) (w v e .force)),
+                            tt,
+                          ),
+                        ),
+                      ),
+                    ),
+                  ),
+                ),
+              ),
+            ),
+          ),
+        ),
+      )

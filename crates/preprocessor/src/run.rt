@@ -28,7 +28,12 @@ impl<S: Source + Drop> Preprocessor<S> {
         let directives = DirectiveProcessor::new(heap, source)?;
         let processor = MacroProcessor::new(heap)?;
         let meter = Meter::new(heap, budget)?;
-        Ok(Preprocessor { directives, processor, meter, fault: None })
+        Ok(Preprocessor {
+            directives,
+            processor,
+            meter,
+            fault: None,
+        })
     }
 }
 

@@ -18,7 +18,8 @@ pub read-then : (s t u : Defines) → ReadOn s t → ReadOn t u → ReadOn s u
 read-then s t u a b = record {
   defs = b .defs ∙ a .defs;
   mark = b .mark ∙ a .mark;
-  kept = ap (λ n. take n (vec-items (u .kept))) (sym (a .mark)) ∙ b .kept ∙ ap (λ n. take n (vec-items (t .kept))) (a .mark) ∙ a .kept }
+  kept = ap (λ n. take n (vec-items (u .kept))) (sym (a .mark)) ∙ b .kept ∙ ap (λ n. take n (vec-items (t .kept))) (a .mark) ∙ a .kept;
+}
 
 -- one token more, or none where there is no room
 pub read-more : (s t : Defines) (b : Bool) (x : Token) → held t ≡ held s → t .mark ≡ s .mark → vec-items (t .kept) ≡ cond b (vec-items (s .kept) ++ x ∷ []) (vec-items (s .kept)) → ReadOn s t

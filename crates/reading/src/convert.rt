@@ -21,7 +21,12 @@ pub enum Converted {
 pub fn fault(error: PreprocessorError, location: Location) -> Fault
     ensures { λ r. ⌜ r ≡ fault error location ⌝ }
 {
-    Fault { error, location, layer: Layer::Directives, directive: None }
+    Fault {
+        error,
+        location,
+        layer: Layer::Directives,
+        directive: None,
+    }
 }
 
 pub fn make_unexpected_error(token: LexerToken) -> Fault
@@ -43,10 +48,22 @@ pub fn convert_lexer_token(token: LexerToken) -> Converted
 {
     let location = token.location;
     match token.value {
-        LexerTokenValue::Integer(i) => Converted::Token(Token { value: TokenValue::Integer(i), location }),
-        LexerTokenValue::Float(f) => Converted::Token(Token { value: TokenValue::Float(f), location }),
-        LexerTokenValue::Ident(n) => Converted::Token(Token { value: TokenValue::Ident(n), location }),
-        LexerTokenValue::Punct(p) => Converted::Token(Token { value: TokenValue::Punct(p), location }),
+        LexerTokenValue::Integer(i) => Converted::Token(Token {
+            value: TokenValue::Integer(i),
+            location,
+        }),
+        LexerTokenValue::Float(f) => Converted::Token(Token {
+            value: TokenValue::Float(f),
+            location,
+        }),
+        LexerTokenValue::Ident(n) => Converted::Token(Token {
+            value: TokenValue::Ident(n),
+            location,
+        }),
+        LexerTokenValue::Punct(p) => Converted::Token(Token {
+            value: TokenValue::Punct(p),
+            location,
+        }),
         LexerTokenValue::Hash => Converted::Hash,
         LexerTokenValue::NewLine => Converted::NewLine,
     }

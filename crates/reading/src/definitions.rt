@@ -37,7 +37,10 @@ fn keep_parameter(defines: &mut Defines, name: u32, location: Location) -> Step<
     if defines.pending_parameters() >= 32 {
         return Err(StepExit::Error(fault(PreprocessorError::TooManyParameters, location)));
     }
-    if !defines.keep_parameter(Token { value: TokenValue::Ident(name), location }) {
+    if !defines.keep_parameter(Token {
+        value: TokenValue::Ident(name),
+        location,
+    }) {
         return Err(StepExit::Error(fault(PreprocessorError::KeptTokensFull, location)));
     }
     Ok(())
@@ -57,7 +60,10 @@ impl<S: Source> Reader<S> {
                 LexerTokenValue::Punct(Punct::Comma) if !first_param => {
                     let (name, location) = self.expect_lexer_ident(token.location)?;
                     if defines.is_pending_parameter(name) {
-                        return Err(StepExit::Error(fault(PreprocessorError::DuplicateParameter, location)));
+                        return Err(StepExit::Error(fault(
+                            PreprocessorError::DuplicateParameter,
+                            location,
+                        )));
                     }
                     (name, location)
                 }
@@ -83,7 +89,12 @@ impl<S: Source> Reader<S> {
 }
 
 // A name in force may be defined again only by the same definition. What was read and not accepted is given back.
-pub fn accept_define(defines: &mut Defines, name: u32, function_like: bool, location: Location) -> Result<(), Fault>
+pub fn accept_define(
+    defines: &mut Defines,
+    name: u32,
+    function_like: bool,
+    location: Location,
+) -> Result<(), Fault>
     ensures handles { λ _. ⌜ Grown (held (now (defines .entry))) (held (now (defines .exit))) ⌝ }
     ensures settled { λ _. ⌜ Settled (now (defines .exit)) ⌝ }
 {

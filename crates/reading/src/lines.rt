@@ -32,7 +32,10 @@ impl<S: Source> Reader<S> {
     pub fn new(source: S) -> Reader<S>
         ensures { λ r. ⌜ means (r .source) ≡ means source ⌝ }
     {
-        Reader { source, last: default_location() }
+        Reader {
+            source,
+            last: default_location(),
+        }
     }
 
     pub fn get_lexer_token(&mut self) -> Step<LexerToken>
@@ -48,7 +51,12 @@ impl<S: Source> Reader<S> {
             }
             Err(Closing::End) => Err(StepExit::Finished),
             Err(Closing::Fault(error, location)) => {
-                Err(StepExit::Error(Fault { error: error.raised(), location, layer: Layer::Source, directive: None }))
+                Err(StepExit::Error(Fault {
+                    error: error.raised(),
+                    location,
+                    layer: Layer::Source,
+                    directive: None,
+                }))
             }
         }
     }
@@ -57,7 +65,10 @@ impl<S: Source> Reader<S> {
         ensures { λ _. ⌜ length (means (now (self .exit) .source) .rest) ≤ length (means (now (self .entry) .source) .rest) ⌝ }
     {
         match self.get_lexer_token() {
-            Err(StepExit::Finished) => Err(StepExit::Error(fault(PreprocessorError::UnexpectedEndOfInput, current_location))),
+            Err(StepExit::Finished) => Err(StepExit::Error(fault(
+                PreprocessorError::UnexpectedEndOfInput,
+                current_location,
+            ))),
             step => step,
         }
     }
@@ -97,11 +108,17 @@ impl<S: Source> Reader<S> {
         loop {
             let token = self.get_lexer_token()?;
             match convert_lexer_token(token) {
-                Converted::NewLine => return Ok(Span { from, to: meter.working.len() }),
+                Converted::NewLine => return Ok(Span {
+                    from,
+                    to: meter.working.len(),
+                }),
                 Converted::Hash => return Err(StepExit::Error(make_unexpected_error(token))),
                 Converted::Token(x) => {
                     if !meter.store(x) {
-                        return Err(StepExit::Error(fault(PreprocessorError::WorkingTokensFull, x.location)));
+                        return Err(StepExit::Error(fault(
+                            PreprocessorError::WorkingTokensFull,
+                            x.location,
+                        )));
                     }
                 }
             }
@@ -119,7 +136,10 @@ impl<S: Source> Reader<S> {
                 Converted::Hash => return Err(StepExit::Error(make_unexpected_error(token))),
                 Converted::Token(x) => {
                     if !defines.keep(x) {
-                        return Err(StepExit::Error(fault(PreprocessorError::KeptTokensFull, x.location)));
+                        return Err(StepExit::Error(fault(
+                            PreprocessorError::KeptTokensFull,
+                            x.location,
+                        )));
                     }
                 }
             }

@@ -23,7 +23,10 @@ impl Blocks {
         ensures { λ r. ⌜ made r (λ b. (vec-items (b .stack) ≡ []) × (b .skipping ≡ false)) ⌝ }
     {
         let stack = Vec::with_capacity(heap, 64)?;
-        Ok(Blocks { stack, skipping: false })
+        Ok(Blocks {
+            stack,
+            skipping: false,
+        })
     }
 
     // How many blocks are open.

@@ -21,14 +21,16 @@ grows-same t = record {
   moves = omega arith;
   budget = refl;
   working = take-all (length (t .working)) (t .working) (omega arith);
-  building = take-all (length (t .building)) (t .building) (omega arith) }
+  building = take-all (length (t .building)) (t .building) (omega arith);
+}
 
 pub grows-on : (t u v : Tank) → Grows t u → Grows u v → Grows t v
 grows-on t u v f g = record {
   moves = omega (arith, f .moves, g .moves);
   budget = g .budget ∙ f .budget;
   working = front-on (t .working) (u .working) (v .working) (f .working) (g .working);
-  building = front-on (t .building) (u .building) (v .building) (f .building) (g .building) }
+  building = front-on (t .building) (u .building) (v .building) (f .building) (g .building);
+}
 
 -- a token is stored, or there is no room for it
 pub grows-stored : (t u v : Tank) (b : Bool) (x : Token) → Grows t u → v ≡ cond b (stored u x) u → Grows t v
@@ -36,7 +38,8 @@ grows-stored t u v true x f e = subst (Grows t) (sym e) (grows-on t u (stored u 
   moves = omega arith;
   budget = refl;
   working = take-at (u .working) (x ∷ []) (length (u .working)) refl;
-  building = take-all (length (u .building)) (u .building) (omega arith) }))
+  building = take-all (length (u .building)) (u .building) (omega arith);
+}))
 grows-stored t u v false x f e = subst (Grows t) (sym e) f
 
 -- cut back to the mark, only moves are gone
