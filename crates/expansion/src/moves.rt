@@ -13,6 +13,7 @@ use crate::processor::MacroProcessor;
 use books::Book;
 use books::Handle;
 use stores::meter::Meter;
+use stores::records::pop;
 use stores::span::Span;
 use stores::span::onward;
 use tokens::fault::Step;
@@ -82,7 +83,7 @@ impl MacroProcessor {
         match book.token(handle, at) {
             Some(x) => self.read_word(x, book),
             None => {
-                let _ = self.invocations.pop();
+                let _ = pop(&mut self.invocations);
                 Err(StepExit::Continue)
             }
         }

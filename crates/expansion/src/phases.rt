@@ -22,6 +22,7 @@ use books::Handle;
 use stores::meter::Meter;
 use stores::records::Named;
 use stores::records::find;
+use stores::records::push;
 use stores::span::Span;
 use tokens::fault::Fault;
 use tokens::fault::Layer;
@@ -31,6 +32,11 @@ use tokens::fault::StepExit;
 use tokens::location::Location;
 use tokens::token::Token;
 use tokens::token::TokenValue;
+
+// At most this many levels wait, and at most this many macros are in expansion.
+const MAX_LEVELS: usize = 16;
+
+const MAX_INVOCATIONS: usize = 513;
 
 pub impl Named for DefineInvocation as DefineInvocationNamed {
     ghost key = { λ u. Some (u .name) };
@@ -150,12 +156,13 @@ impl MacroProcessor {
         let slot = self.call_slot();
         let place = self.invocations.len();
         self.copy_arguments(slot, place, count);
-        self.invocations.push_reserved(DefineInvocation {
+        let invocation = DefineInvocation {
             name,
             handle,
             at: 0,
             reading: None,
-        });
+        };
+        let _ = push(&mut self.invocations, MAX_INVOCATIONS, invocation);
         self.phase = Phase::Plain;
         self.quiet()
     }
@@ -207,20 +214,20 @@ impl MacroProcessor {
     fn descend(&mut self, call: Call, next: usize, meter: &Meter) -> Option<Step<Token>>
         ensures { λ r. ⌜ Made (descended (view (now (self .entry))) (tank (now (meter .entry))) call next) r (view (now (self .exit))) (tank (now (meter .entry))) ⌝ }
     {
-        if self.below.len() >= 16 {
-            return Some(fail(PreprocessorError::TooManyLevels, call.callee.location));
-        }
         let slot = self.call_slot();
         let part = self.argument(slot, next);
         let end = self.invocations.len();
-        self.below.push_reserved(Pending {
+        let pending = Pending {
             call,
             next,
             input: self.input,
             start: self.start,
             line: self.line,
             end,
-        });
+        };
+        let Ok(()) = push(&mut self.below, MAX_LEVELS, pending) else {
+            return Some(fail(PreprocessorError::TooManyLevels, call.callee.location));
+        };
         self.phase = Phase::Plain;
         self.input = part;
         self.start = meter.building.len();
