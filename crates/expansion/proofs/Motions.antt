@@ -27,7 +27,7 @@ use Rattle.expansion.specs.declared.invocation.DefineInvocation.{DefineInvocat
 use Rattle.expansion.specs.declared.invocation.Pending.{Pending}
 use Rattle.expansion.specs.declared.invocation.Phase.{Phase}
 use Rattle.expansion.specs.declared.invocation.Phase.the-variants.{Plain, Held, Met, Gather}
-use Rattle.expansion.specs.Processor.{Proc, Answer, fault, phased, used, idle, top, lowest, base, expanding}
+use Rattle.expansion.specs.Processor.{Proc, Answer, fresh, fault, phased, used, idle, top, lowest, base, expanding}
 use Rattle.expansion.specs.Phases.{Out, Made, Read, topped, inArg, atParam, byWord, inBody, inUse, inInput, begun, meeting}
 use Rattle.expansion.specs.Sane.{Sane, Waits, Holds, Above, Fronts, Kept, Went}
 use Rattle.expansion.specs.Moved.{Moved, PaysFor, Pays}
@@ -174,3 +174,7 @@ refused-moved d p t u b e f = subst (λ x. Moved d p t d p x) (sym (f ∙ ap (λ
 
 pub paid-fault : (a : Answer) (e : PreprocessorError) (l : Location) (t u : Tank) → a ≡ fault e l → PaysFor a t u
 paid-fault a e l t u h = subst (λ x. PaysFor x t u) (sym h) tt
+
+-- nothing is in expansion yet
+pub fresh-holds : (d : Defs) (p : Proc) (gs : List Span) → p ≡ fresh gs → Holds d p
+fresh-holds d p gs e = subst (Holds d) (sym e) (clear d d [] refl [] refl, tt)

@@ -5,6 +5,7 @@ pub mod look;
 pub mod moves;
 pub mod phases;
 pub mod processor;
+pub mod run;
 pub mod setup;
 pub mod slots;
 pub mod step;
