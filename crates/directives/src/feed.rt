@@ -4,6 +4,12 @@ ghost use Rattle.stores.specs.Tank.{tank, Spends};
 ghost use Rattle.books.specs.Book.{Grown};
 ghost use Rattle.defines.specs.Held.{held};
 ghost use Rattle.defines.specs.Sounds.{held-sound};
+ghost use Rattle.defines.specs.Changes.{empty};
+ghost use Rattle.std.specs.Of.Vec.{vec-items};
+ghost use Rattle.std.specs.Vec.{made};
+ghost use mathlib.Core.Bool.{false};
+ghost use mathlib.Core.List.{[]};
+ghost use lib.IntN.{pos};
 use crate::processor::DirectiveProcessor;
 use books::Book;
 use books::Feed;
@@ -29,7 +35,10 @@ use tokens::location::Location;
 use tokens::token::Token;
 
 impl<S: Source + Drop> DirectiveProcessor<S> {
-    pub fn new(heap: Global, source: S) -> Result<DirectiveProcessor<S>, AllocError> {
+    // Nothing is read, defined or open yet.
+    pub fn new(heap: Global, source: S) -> Result<DirectiveProcessor<S>, AllocError>
+        ensures { λ r. ⌜ made r (λ p. (means (p .reader .source) ≡ means source) × (held (p .defines) ≡ empty) × (vec-items (p .blocks .stack) ≡ []) × (p .blocks .skipping ≡ false) × (p .«line_offset» ≡ pos 0) × (p .«had_directive» ≡ false) × (p .«had_non_directive_token» ≡ false)) ⌝ }
+    {
         let defines = Defines::new(heap)?;
         let blocks = Blocks::new(heap)?;
         let parser = IfParser::new(heap)?;

@@ -2,11 +2,15 @@
 ghost use mathlib.Core.Path.{_≡_};
 ghost use Prim.Native.Nat.{ℕ, _-_, _<_, _≤_};
 ghost use Rattle.std.specs.Results.{Cases};
-ghost use Rattle.stores.specs.Tank.{Tank};
+ghost use mathlib.Core.List.{[]};
+ghost use Rattle.std.specs.Of.Vec.{vec-items};
+ghost use Rattle.std.specs.Vec.{made};
+ghost use Rattle.stores.specs.Tank.{Tank, fresh};
+ghost use Rattle.defines.specs.Changes.{empty};
 ghost use Rattle.expansion.specs.Moved.{PaysFor};
 ghost use Rattle.std.specs.declared.option.Option.the-variants.{Some, None};
 ghost use Rattle.books.specs.Book.{Grown, Kept};
-ghost use Rattle.preprocessor.specs.Runs.{spentOf, bookOf, Repeats, Still, Refused};
+ghost use Rattle.preprocessor.specs.Runs.{spentOf, bookOf, inExpansion, Repeats, Still, Refused};
 use crate::state::Preprocessor;
 use directives::feed::DirectiveProcessorBook;
 use directives::feed::DirectiveProcessorFeed;
@@ -24,7 +28,9 @@ use tokens::token::Token;
 
 impl<S: Source + Drop> Preprocessor<S> {
     // All memory is taken here.
-    pub fn new(heap: Global, source: S, budget: u64) -> Result<Preprocessor<S>, AllocError> {
+    pub fn new(heap: Global, source: S, budget: u64) -> Result<Preprocessor<S>, AllocError>
+        ensures { λ r. ⌜ made r (λ p. (means (p .directives .reader .source) ≡ means source) × (bookOf p ≡ empty) × (vec-items (p .directives .blocks .stack) ≡ []) × (inExpansion p ≡ []) × (spentOf p ≡ fresh budget) × (p .fault ≡ None)) ⌝ }
+    {
         let directives = DirectiveProcessor::new(heap, source)?;
         let processor = MacroProcessor::new(heap)?;
         let meter = Meter::new(heap, budget)?;
