@@ -2,6 +2,12 @@
 ghost use mathlib.Core.Path.{_≡_};
 ghost use Rattle.stores.specs.Tank.{tank, Grows, Spends};
 ghost use Rattle.defines.specs.Held.{held};
+ghost use mathlib.Core.Bool.{true, cond};
+ghost use Rattle.std.specs.Of.Vec.{vec-items};
+ghost use Rattle.std.specs.Results.{Cases};
+ghost use Rattle.stores.specs.Places.{latest};
+ghost use Rattle.reading.specs.Blocks.{pushed};
+ghost use Rattle.directives.specs.Segments.{elseOn, endOn, elifOn, decided, ifOn};
 ghost use Rattle.expansion.specs.Processor.{view};
 ghost use Rattle.expansion.specs.Sane.{Holds};
 ghost use Rattle.expansion.specs.Moved.{Moved};
@@ -66,6 +72,7 @@ impl<S: Source> DirectiveProcessor<S> {
     ) -> Result<bool, Fault>
         ensures defs { λ _. ⌜ held (now (self .exit) .defines) ≡ held (now (self .entry) .defines) ⌝ }
         ensures stores { λ _. ⌜ Grows (tank (now (meter .entry))) (tank (now (meter .exit))) ⌝ }
+        ensures segments { λ _. ⌜ now (self .exit) .blocks ≡ now (self .entry) .blocks ⌝ }
     {
         self.parser.begin(location, true);
         let mut lexer = IfLexer {
@@ -84,6 +91,7 @@ impl<S: Source> DirectiveProcessor<S> {
     fn condition(&mut self, location: Location, meter: &mut Meter) -> Step<bool>
         ensures defs { λ _. ⌜ held (now (self .exit) .defines) ≡ held (now (self .entry) .defines) ⌝ }
         ensures stores { λ _. ⌜ Spends (tank (now (meter .entry))) (tank (now (meter .exit))) ⌝ }
+        ensures segments { λ _. ⌜ now (self .exit) .blocks ≡ now (self .entry) .blocks ⌝ }
     {
         let mark = meter.mark();
         let guard = Guard { meter, mark };
@@ -96,7 +104,8 @@ impl<S: Source> DirectiveProcessor<S> {
 
     // Whether the name behind `#ifdef` or `#ifndef` is in force.
     fn is_defined(&mut self, location: Location) -> Step<bool>
-        ensures { λ _. ⌜ held (now (self .exit) .defines) ≡ held (now (self .entry) .defines) ⌝ }
+        ensures defs { λ _. ⌜ held (now (self .exit) .defines) ≡ held (now (self .entry) .defines) ⌝ }
+        ensures segments { λ _. ⌜ now (self .exit) .blocks ≡ now (self .entry) .blocks ⌝ }
     {
         let (name, name_location) = self.reader.expect_lexer_ident(location)?;
         self.reader.expect_newline(name_location)?;
@@ -109,6 +118,7 @@ impl<S: Source> DirectiveProcessor<S> {
     fn opens(&mut self, opening: Opening, location: Location, meter: &mut Meter) -> Step<bool>
         ensures defs { λ _. ⌜ held (now (self .exit) .defines) ≡ held (now (self .entry) .defines) ⌝ }
         ensures stores { λ _. ⌜ Spends (tank (now (meter .entry))) (tank (now (meter .exit))) ⌝ }
+        ensures segments { λ _. ⌜ now (self .exit) .blocks ≡ now (self .entry) .blocks ⌝ }
     {
         match opening {
             Opening::If => self.condition(location, meter),
@@ -118,7 +128,9 @@ impl<S: Source> DirectiveProcessor<S> {
     }
 
     fn begin_block(&mut self, block: DirectiveBlock, skipping: bool) -> Step<()>
-        ensures { λ _. ⌜ held (now (self .exit) .defines) ≡ held (now (self .entry) .defines) ⌝ }
+        ensures defs { λ _. ⌜ held (now (self .exit) .defines) ≡ held (now (self .entry) .defines) ⌝ }
+        ensures stack { λ _. ⌜ vec-items (now (self .exit) .blocks .stack) ≡ pushed (vec-items (now (self .entry) .blocks .stack)) block ⌝ }
+        ensures skipping { λ _. ⌜ now (self .exit) .blocks .skipping ≡ skipping ⌝ }
     {
         if self.blocks.begin(block, skipping) {
             Ok(())
@@ -136,6 +148,7 @@ impl<S: Source> DirectiveProcessor<S> {
     ) -> Step<()>
         ensures defs { λ _. ⌜ held (now (self .exit) .defines) ≡ held (now (self .entry) .defines) ⌝ }
         ensures stores { λ _. ⌜ Spends (tank (now (meter .entry))) (tank (now (meter .exit))) ⌝ }
+        ensures segments { λ r. ⌜ Cases r (λ _. (vec-items (now (self .exit) .blocks .stack) ≡ ifOn (now (self .entry) .blocks .skipping) (now (self .exit) .blocks .skipping) «directive_location» (vec-items (now (self .entry) .blocks .stack))) × (cond (now (self .entry) .blocks .skipping) (now (self .exit) .blocks .skipping) true ≡ true)) (λ _. Unit {0}) ⌝ }
     {
         if self.blocks.skipping {
             self.begin_block(
@@ -169,6 +182,7 @@ impl<S: Source> DirectiveProcessor<S> {
     ) -> Step<()>
         ensures defs { λ _. ⌜ held (now (self .exit) .defines) ≡ held (now (self .entry) .defines) ⌝ }
         ensures stores { λ _. ⌜ Spends (tank (now (meter .entry))) (tank (now (meter .exit))) ⌝ }
+        ensures segments { λ r. ⌜ Cases r (λ _. (vec-items (now (self .exit) .blocks .stack) ≡ elifOn (now (self .exit) .blocks .skipping) (latest (vec-items (now (self .entry) .blocks .stack))) (vec-items (now (self .entry) .blocks .stack))) × (cond (decided (latest (vec-items (now (self .entry) .blocks .stack)))) (now (self .exit) .blocks .skipping) true ≡ true)) (λ _. Unit {0}) ⌝ }
     {
         self.blocks.skipping = true;
         let Some(block) = self.blocks.top() else {
@@ -199,7 +213,8 @@ impl<S: Source> DirectiveProcessor<S> {
     }
 
     pub fn parse_else_directive(&mut self, directive_location: Location) -> Step<()>
-        ensures { λ _. ⌜ held (now (self .exit) .defines) ≡ held (now (self .entry) .defines) ⌝ }
+        ensures defs { λ _. ⌜ held (now (self .exit) .defines) ≡ held (now (self .entry) .defines) ⌝ }
+        ensures segments { λ r. ⌜ Cases r (λ _. (vec-items (now (self .exit) .blocks .stack) ≡ elseOn (latest (vec-items (now (self .entry) .blocks .stack))) (vec-items (now (self .entry) .blocks .stack)) .0) × (now (self .exit) .blocks .skipping ≡ elseOn (latest (vec-items (now (self .entry) .blocks .stack))) (vec-items (now (self .entry) .blocks .stack)) .1)) (λ _. Unit {0}) ⌝ }
     {
         self.reader.expect_newline(directive_location)?;
         let Some(block) = self.blocks.top() else {
@@ -227,7 +242,8 @@ impl<S: Source> DirectiveProcessor<S> {
 
     // After `#endif` the text is live exactly where the block lies in live text.
     pub fn parse_endif_directive(&mut self, directive_location: Location) -> Step<()>
-        ensures { λ _. ⌜ held (now (self .exit) .defines) ≡ held (now (self .entry) .defines) ⌝ }
+        ensures defs { λ _. ⌜ held (now (self .exit) .defines) ≡ held (now (self .entry) .defines) ⌝ }
+        ensures segments { λ r. ⌜ Cases r (λ _. (vec-items (now (self .exit) .blocks .stack) ≡ endOn (latest (vec-items (now (self .entry) .blocks .stack))) (vec-items (now (self .entry) .blocks .stack)) .0) × (now (self .exit) .blocks .skipping ≡ endOn (latest (vec-items (now (self .entry) .blocks .stack))) (vec-items (now (self .entry) .blocks .stack)) .1)) (λ _. Unit {0}) ⌝ }
     {
         let Some(block) = self.blocks.close() else {
             return Err(StepExit::Error(fault(
@@ -252,6 +268,7 @@ impl<S: Source> DirectiveProcessor<S> {
     ) -> Result<(), Fault>
         ensures defs { λ _. ⌜ held (now (self .exit) .defines) ≡ held (now (self .entry) .defines) ⌝ }
         ensures stores { λ _. ⌜ Grows (tank (now (meter .entry))) (tank (now (meter .exit))) ⌝ }
+        ensures segments { λ _. ⌜ now (self .exit) .blocks ≡ now (self .entry) .blocks ⌝ }
     {
         self.parser.begin(location, false);
         let mut lexer = IfLexer {
@@ -278,6 +295,7 @@ impl<S: Source> DirectiveProcessor<S> {
     ) -> Step<()>
         ensures defs { λ _. ⌜ held (now (self .exit) .defines) ≡ held (now (self .entry) .defines) ⌝ }
         ensures stores { λ _. ⌜ Spends (tank (now (meter .entry))) (tank (now (meter .exit))) ⌝ }
+        ensures segments { λ _. ⌜ now (self .exit) .blocks ≡ now (self .entry) .blocks ⌝ }
     {
         let mark = meter.mark();
         let guard = Guard { meter, mark };

@@ -20,7 +20,8 @@ use tokens::location::default_location;
 impl<S: Source> DirectiveProcessor<S> {
     // What was read and not accepted is given back.
     pub fn parse_define_directive(&mut self, directive_location: Location) -> Step<()>
-        ensures { λ _. ⌜ Grown (held (now (self .entry) .defines)) (held (now (self .exit) .defines)) ⌝ }
+        ensures handles { λ _. ⌜ Grown (held (now (self .entry) .defines)) (held (now (self .exit) .defines)) ⌝ }
+        ensures segments { λ _. ⌜ now (self .exit) .blocks ≡ now (self .entry) .blocks ⌝ }
     {
         let (name, name_location) = self.reader.expect_lexer_ident(directive_location)?;
         self.defines.begin();
@@ -42,7 +43,8 @@ impl<S: Source> DirectiveProcessor<S> {
     }
 
     pub fn parse_undef_directive(&mut self, directive_location: Location) -> Step<()>
-        ensures { λ _. ⌜ Grown (held (now (self .entry) .defines)) (held (now (self .exit) .defines)) ⌝ }
+        ensures handles { λ _. ⌜ Grown (held (now (self .entry) .defines)) (held (now (self .exit) .defines)) ⌝ }
+        ensures segments { λ _. ⌜ now (self .exit) .blocks ≡ now (self .entry) .blocks ⌝ }
     {
         let (name, name_location) = self.reader.expect_lexer_ident(directive_location)?;
         self.defines.undefine(name);

@@ -15,7 +15,8 @@ use tokens::token::Version;
 impl<S: Source> DirectiveProcessor<S> {
     // The rest of the line is kept; broken off, it is given back.
     fn keep_line(&mut self) -> Step<Part>
-        ensures { λ _. ⌜ held (now (self .exit) .defines) ≡ held (now (self .entry) .defines) ⌝ }
+        ensures defs { λ _. ⌜ held (now (self .exit) .defines) ≡ held (now (self .entry) .defines) ⌝ }
+        ensures segments { λ _. ⌜ now (self .exit) .blocks ≡ now (self .entry) .blocks ⌝ }
     {
         let first = self.reader.get_lexer_token()?;
         self.defines.begin();
@@ -29,7 +30,8 @@ impl<S: Source> DirectiveProcessor<S> {
     }
 
     pub fn parse_version_directive(&mut self, location: Location) -> Step<Token>
-        ensures { λ _. ⌜ held (now (self .exit) .defines) ≡ held (now (self .entry) .defines) ⌝ }
+        ensures defs { λ _. ⌜ held (now (self .exit) .defines) ≡ held (now (self .entry) .defines) ⌝ }
+        ensures segments { λ _. ⌜ now (self .exit) .blocks ≡ now (self .entry) .blocks ⌝ }
     {
         let is_first_directive = !(self.had_directive || self.had_non_directive_token);
         let tokens = self.keep_line()?;
@@ -45,7 +47,8 @@ impl<S: Source> DirectiveProcessor<S> {
     }
 
     pub fn parse_extension_directive(&mut self, location: Location) -> Step<Token>
-        ensures { λ _. ⌜ held (now (self .exit) .defines) ≡ held (now (self .entry) .defines) ⌝ }
+        ensures defs { λ _. ⌜ held (now (self .exit) .defines) ≡ held (now (self .entry) .defines) ⌝ }
+        ensures segments { λ _. ⌜ now (self .exit) .blocks ≡ now (self .entry) .blocks ⌝ }
     {
         let has_non_directive_before = self.had_non_directive_token;
         let tokens = self.keep_line()?;
@@ -59,7 +62,8 @@ impl<S: Source> DirectiveProcessor<S> {
     }
 
     pub fn parse_pragma_directive(&mut self, location: Location) -> Step<Token>
-        ensures { λ _. ⌜ held (now (self .exit) .defines) ≡ held (now (self .entry) .defines) ⌝ }
+        ensures defs { λ _. ⌜ held (now (self .exit) .defines) ≡ held (now (self .entry) .defines) ⌝ }
+        ensures segments { λ _. ⌜ now (self .exit) .blocks ≡ now (self .entry) .blocks ⌝ }
     {
         let tokens = self.keep_line()?;
         Ok(Token {

@@ -7,6 +7,7 @@ returns-in-Ok g c =
     let t = tank (c .args .meter .now) in
     record {
       defs = c .evaluate-if-expression .ensures .defs;
+      segments = c .evaluate-if-expression .ensures .segments;
       stores = given-back t (tank (c .evaluate-if-expression .last .meter)) _ (c .mark-mark .result) (c .mark-mark .ensures) (grows-on t (tank (c .gather-until-newline .last .meter)) _ (c .gather-until-newline .ensures) (c .evaluate-if-expression .ensures .stores)) (c .drop-guard-in-Ok .ensures);
     }
 
@@ -15,5 +16,6 @@ returns g c =
     let t = tank (c .args .meter .now) in
     record {
       defs = c .evaluate-if-expression .ensures .defs;
+      segments = c .evaluate-if-expression .ensures .segments;
       stores = given-back t (tank (c .evaluate-if-expression .last .meter)) _ (c .mark-mark .result) (c .mark-mark .ensures) (grows-on t (tank (c .gather-until-newline .last .meter)) _ (c .gather-until-newline .ensures) (c .evaluate-if-expression .ensures .stores)) (c .drop-guard-2 .ensures);
     }

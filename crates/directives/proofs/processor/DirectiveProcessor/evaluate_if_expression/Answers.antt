@@ -5,13 +5,13 @@ use Rattle.directives.proofs.Judging.{fresh-grows}
 use Rattle.directives.proofs.processor.DirectiveProcessor.evaluate_if_expression.Needs as need
 
 pub returns-in-Break-value : need.returns-in-Break-value
-returns-in-Break-value g c = record { defs = refl; stores = fresh-grows _ _ _ _ _ _ _ (c .begin .ensures .processor) (c .evaluate-expression .ensures .looked .moved) }
+returns-in-Break-value g c = record { defs = refl; segments = refl; stores = fresh-grows _ _ _ _ _ _ _ (c .begin .ensures .processor) (c .evaluate-expression .ensures .looked .moved) }
 
 pub returns-in-Break-token : need.returns-in-Break-token
-returns-in-Break-token g c = record { defs = refl; stores = fresh-grows _ _ _ _ _ _ _ (c .begin .ensures .processor) (then-moved _ _ _ _ _ _ _ (tank (c .evaluate-expression .last .meter)) _ (c .evaluate-expression .ensures .looked .moved) (c .peek .ensures .looked .moved)) }
+returns-in-Break-token g c = record { defs = refl; segments = refl; stores = fresh-grows _ _ _ _ _ _ _ (c .begin .ensures .processor) (then-moved _ _ _ _ _ _ _ (tank (c .evaluate-expression .last .meter)) _ (c .evaluate-expression .ensures .looked .moved) (c .peek .ensures .looked .moved)) }
 
 pub returns-in-Some : need.returns-in-Some
-returns-in-Some g c = record { defs = refl; stores = fresh-grows _ _ _ _ _ _ _ (c .begin .ensures .processor) (then-moved _ _ _ _ _ _ _ (tank (c .evaluate-expression .last .meter)) _ (c .evaluate-expression .ensures .looked .moved) (c .peek .ensures .looked .moved)) }
+returns-in-Some g c = record { defs = refl; segments = refl; stores = fresh-grows _ _ _ _ _ _ _ (c .begin .ensures .processor) (then-moved _ _ _ _ _ _ _ (tank (c .evaluate-expression .last .meter)) _ (c .evaluate-expression .ensures .looked .moved) (c .peek .ensures .looked .moved)) }
 
 pub returns-in-None : need.returns-in-None
-returns-in-None g c = record { defs = refl; stores = fresh-grows _ _ _ _ _ _ _ (c .begin .ensures .processor) (then-moved _ _ _ _ _ _ _ (tank (c .evaluate-expression .last .meter)) _ (c .evaluate-expression .ensures .looked .moved) (c .peek .ensures .looked .moved)) }
+returns-in-None g c = record { defs = refl; segments = refl; stores = fresh-grows _ _ _ _ _ _ _ (c .begin .ensures .processor) (then-moved _ _ _ _ _ _ _ (tank (c .evaluate-expression .last .meter)) _ (c .evaluate-expression .ensures .looked .moved) (c .peek .ensures .looked .moved)) }
