@@ -1,4 +1,6 @@
 // The expressions of `#if`, `#elif` and `#line`, worked out over a gathered line.
+#![tactic(auto)]
+
 pub mod if_lexer;
 pub mod if_parser;
 pub mod levels;

@@ -1,4 +1,6 @@
 // Macro expansion as a machine of moves, over any feed.
+#![tactic(auto)]
+
 pub mod delimiter;
 pub mod invocation;
 pub mod look;

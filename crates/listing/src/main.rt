@@ -1,4 +1,6 @@
 // Lists what passes of the token file on standard input.
+#![tactic(auto)]
+
 use lists::list::list;
 use std::io;
 use std::io::Read;

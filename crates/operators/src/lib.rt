@@ -1,4 +1,6 @@
 // The operators of a condition: their levels, and what they make of signed 64-bit values.
+#![tactic(auto)]
+
 ghost use Rattle.std.specs.Prelude.{◌≡◌, ℤ, neg_ℤ};
 ghost use Rattle.operators.specs.Calc.{operator_level, calc, fitted, sign_in, signed};
 

@@ -1,4 +1,6 @@
 // Lists every case of the container on standard input, each under its name.
+#![tactic(auto)]
+
 mod container;
 
 use container::first_case;

@@ -1,4 +1,6 @@
 // Where tokens come from: the caller's records, or the bytes of a token file.
+#![tactic(auto)]
+
 pub mod file;
 mod last;
 pub mod line;

@@ -1,4 +1,6 @@
 // What the lexer hands over, what the preprocessor answers, and the faults.
+#![tactic(auto)]
+
 pub mod fault;
 pub mod float;
 pub mod lexer;
