@@ -37,7 +37,7 @@ fn bears(key: Option<u32>, name: u32) -> bool
 
 // The first place whose record bears this name.
 pub fn find<T: Named>(items: &[T], name: u32) -> Option<usize>
-    ensures value { result ≡ place 0 name (map key items.now) }
+    ensures value { result ≡ place 0 name (map T.key items.now) }
     ensures within { IfSome result (λ i. i < length items.now) }
 {
     for (i, x) in items.iter().enumerate() {

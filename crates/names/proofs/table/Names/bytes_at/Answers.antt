@@ -15,11 +15,11 @@ ends c = ends_within _ _ _ _ c.args.self.now.within (listed_at c) c.index-s.ensu
 pub index-s-requires : goal.index-s-requires
 index-s-requires c = omega (arith, simp length-map at c.requires, c.args.self.now.spans.ok.0)
 
-pub overflow-add-to : goal.overflow-add-to
-overflow-add-to c = omega (arith, ends (goal.at.overflow-add-to c).After-index-s, c.args.self.now.short)
+pub overflow_add-to : goal.overflow_add-to
+overflow_add-to c = omega (arith, ends (goal.at.overflow_add-to c).After-index-s, c.args.self.now.short)
 
-pub slice-bounds-result-end : goal.slice-bounds-result-end
-slice-bounds-result-end c = omega (arith, ends (goal.at.slice-bounds-result-end c).After-index-s, c.deref.ensures.len)
+pub slice_bounds-result-end : goal.slice_bounds-result-end
+slice_bounds-result-end c = omega (arith, ends (goal.at.slice_bounds-result-end c).After-index-s, c.deref.ensures.len)
 
 pub returns : goal.returns
 returns c =

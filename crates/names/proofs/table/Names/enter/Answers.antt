@@ -7,59 +7,45 @@ use Rattle.names.specs.Spans.{spanned, listed, joint, Within, Placed, Distinct}
 use Rattle.names.proofs.Tables.{within_push, listed_push, joint_push, distinct_push, absent}
 use Rattle.names.proofs.Cuts.{placed_push}
 use Rattle.names.proofs.table.Names.enter.Goals as goal
-use Rattle.names.proofs.table.Names.enter.Goals.{After-push-reserved}
+use Rattle.names.proofs.table.Names.enter.Goals.{After-push_reserved}
 
-few_spans : (c : After-push-reserved) → vec_len c.args.self.now.spans < 1024
+few_spans : (c : After-push_reserved) → vec_len c.args.self.now.spans < 1024
 few_spans c = omega (arith, simp length-map at c.requires.few, c.args.self.now.spans.ok.0)
 
-short_bytes : (c : After-push-reserved) → vec_len c.args.self.now.bytes + length c.args.bytes.now ≤ 16384
+short_bytes : (c : After-push_reserved) → vec_len c.args.self.now.bytes + length c.args.bytes.now ≤ 16384
 short_bytes c = omega (arith, c.requires.short, ap length c.args.self.now.joined, c.args.self.now.bytes.ok.0)
 
-grown : (c : After-push-reserved) → is_ok c.extend-from-slice.result ≡ true
-grown c = c.extend-from-slice.ensures.succeeds (omega (arith, short_bytes c, c.args.self.now.roomy))
+grown : (c : After-push_reserved) → is_ok c.extend_from_slice.result ≡ true
+grown c = c.extend_from_slice.ensures.succeeds (omega (arith, short_bytes c, c.args.self.now.roomy))
 
-bytes_now : (c : After-push-reserved) → vec_items c.extend-from-slice.new.self ≡ vec_items c.args.self.now.bytes ++ c.args.bytes.now
-bytes_now c = chosen _ _ _ _ c.extend-from-slice.ensures.items (grown c)
+bytes_now : (c : After-push_reserved) → vec_items c.extend_from_slice.new.self ≡ vec_items c.args.self.now.bytes ++ c.args.bytes.now
+bytes_now c = chosen _ _ _ _ c.extend_from_slice.ensures.items (grown c)
 
-listed_now : (c : After-push-reserved) → listed (vec_items c.extend-from-slice.new.self) (vec_items c.push-reserved.new.self) ≡ listed (vec_items c.args.self.now.bytes) (vec_items c.args.self.now.spans) ++ c.args.bytes.now ∷ []
+listed_now : (c : After-push_reserved) → listed (vec_items c.extend_from_slice.new.self) (vec_items c.push_reserved.new.self) ≡ listed (vec_items c.args.self.now.bytes) (vec_items c.args.self.now.spans) ++ c.args.bytes.now ∷ []
 listed_now c =
     let p = bytes_now c in
-    let q = c.push-reserved.ensures.items in
+    let q = c.push_reserved.ensures.items in
     (λ i. listed (p i) (q i)) ∙ listed_push _ _ _ _ c.args.self.now.within (c.len-start.ensures ∙ c.args.self.now.bytes.ok.0) refl
 
-pub push-reserved-requires : goal.push-reserved-requires
-push-reserved-requires c = omega (arith, simp length-map at c.requires.few, c.args.self.now.spans.ok.0, c.args.self.now.wide)
+pub push_reserved-requires : goal.push_reserved-requires
+push_reserved-requires c = omega (arith, simp length-map at c.requires.few, c.args.self.now.spans.ok.0, c.args.self.now.wide)
 
-pub invariant-of-self : goal.invariant-of-self
-invariant-of-self c =
+pub invariant_of-self : goal.invariant_of-self
+invariant_of-self c =
     let p = bytes_now c in
-    let q = c.push-reserved.ensures.items in
+    let q = c.push_reserved.ensures.items in
     let l = listed_now c in
-    let n = chosen _ _ _ _ c.extend-from-slice.ensures.len (grown c) in (
-      omega (arith, few_spans c, c.push-reserved.ensures.len),
-      (
-        omega (arith, short_bytes c, n),
-        (
-          omega (arith, c.extend-from-slice.ensures.capacity, c.args.self.now.roomy),
-          (
-            omega (arith, c.push-reserved.ensures.capacity, c.args.self.now.wide),
-            (
-              subst (λ (x : List ℕ). Within x (vec_items c.push-reserved.new.self)) (sym p) (subst (λ (x : List Span). Within (vec_items c.args.self.now.bytes ++ c.args.bytes.now) x) (sym q) (within_push _ _ _ _ c.args.self.now.within (omega (arith, c.len-start.ensures, c.args.self.now.bytes.ok.0)))),
-              (
-                ap joint l ∙ joint_push (listed (vec_items c.args.self.now.bytes) (vec_items c.args.self.now.spans)) c.args.bytes.now ∙ ap (λ x. x ++ c.args.bytes.now) c.args.self.now.joined ∙ sym p,
-                (
-                  subst (λ (x : List (List ℕ)). Placed x (vec_items c.push-reserved.new.self)) (sym l) (subst (λ (x : List Span). Placed (listed (vec_items c.args.self.now.bytes) (vec_items c.args.self.now.spans) ++ c.args.bytes.now ∷ []) x) (sym q) (placed_push _ _ _ _ (length-map (vec_items c.args.self.now.spans) (spanned (vec_items c.args.self.now.bytes))) c.args.self.now.placed (c.len-start.ensures ∙ c.args.self.now.bytes.ok.0 ∙ ap length (sym c.args.self.now.joined)))),
-                  (
-                    subst Distinct (sym l) (distinct_push _ _ c.args.self.now.distinct (absent 0 _ _ c.requires.fresh)),
-                    tt,
-                  ),
-                ),
-              ),
-            ),
-          ),
-        ),
-      ),
-    )
+    let n = chosen _ _ _ _ c.extend_from_slice.ensures.len (grown c) in
+    record {
+      few = omega (arith, few_spans c, c.push_reserved.ensures.len);
+      short = omega (arith, short_bytes c, n);
+      roomy = omega (arith, c.extend_from_slice.ensures.capacity, c.args.self.now.roomy);
+      wide = omega (arith, c.push_reserved.ensures.capacity, c.args.self.now.wide);
+      within = subst (λ (x : List ℕ). Within x (vec_items c.push_reserved.new.self)) (sym p) (subst (λ (x : List Span). Within (vec_items c.args.self.now.bytes ++ c.args.bytes.now) x) (sym q) (within_push _ _ _ _ c.args.self.now.within (omega (arith, c.len-start.ensures, c.args.self.now.bytes.ok.0))));
+      joined = ap joint l ∙ joint_push (listed (vec_items c.args.self.now.bytes) (vec_items c.args.self.now.spans)) c.args.bytes.now ∙ ap (λ x. x ++ c.args.bytes.now) c.args.self.now.joined ∙ sym p;
+      placed = subst (λ (x : List (List ℕ)). Placed x (vec_items c.push_reserved.new.self)) (sym l) (subst (λ (x : List Span). Placed (listed (vec_items c.args.self.now.bytes) (vec_items c.args.self.now.spans) ++ c.args.bytes.now ∷ []) x) (sym q) (placed_push _ _ _ _ (length-map (vec_items c.args.self.now.spans) (spanned (vec_items c.args.self.now.bytes))) c.args.self.now.placed (c.len-start.ensures ∙ c.args.self.now.bytes.ok.0 ∙ ap length (sym c.args.self.now.joined))));
+      distinct = subst Distinct (sym l) (distinct_push _ _ c.args.self.now.distinct (absent 0 _ _ c.requires.fresh));
+    }
 
 pub returns : goal.returns
-returns c = listed_now (goal.at.returns c).After-push-reserved
+returns c = listed_now (goal.at.returns c).After-push_reserved

@@ -5,18 +5,18 @@ use Rattle.names.specs.Table.{names}
 use Rattle.names.proofs.Tables.{seek_hit, seek_miss, seek_end}
 use Rattle.names.proofs.table.Names.find.Goals as goal
 
-pub bytes-at-requires : goal.bytes-at-requires
-bytes-at-requires c = simp length-map (omega (arith, c.args.self.now.spans.ok.0, c.len-i-end.ensures))
+pub bytes_at-requires : goal.bytes_at-requires
+bytes_at-requires c = simp length-map (omega (arith, c.args.self.now.spans.ok.0, c.len-i-end.ensures))
 
-pub returns-then-same-name : goal.returns-then-same-name
-returns-then-same-name c =
+pub returns-then-same_name : goal.returns-then-same_name
+returns-then-same_name c =
     let h : c.loop-i.i < length (names c.args.self.now) = simp length-map (omega (arith, c.args.self.now.spans.ok.0, c.len-i-end.ensures)) in
-    sym (seek_hit _ _ _ h (sym c.bytes-at.ensures ∙ c.same-name.ensures.0 c.if-same-name.true)) ∙ c.loop-i.invariant
+    sym (seek_hit _ _ _ h (sym c.bytes_at.ensures ∙ c.same_name.ensures.0 c.if-same_name.true)) ∙ c.loop-i.invariant
 
 pub loop-i-preserved : goal.loop-i-preserved
 loop-i-preserved c =
     let h : c.loop-i.i < length (names c.args.self.now) = simp length-map (omega (arith, c.args.self.now.spans.ok.0, c.len-i-end.ensures)) in
-    sym (seek_miss _ _ _ h (λ e. let z : false ≡ true = sym c.if-same-name.false ∙ c.same-name.ensures.1 (c.bytes-at.ensures ∙ e) in search rules)) ∙ c.loop-i.invariant
+    sym (seek_miss _ _ _ h (λ e. let z : false ≡ true = sym c.if-same_name.false ∙ c.same_name.ensures.1 (c.bytes_at.ensures ∙ e) in search rules)) ∙ c.loop-i.invariant
 
 pub returns : goal.returns
 returns c =

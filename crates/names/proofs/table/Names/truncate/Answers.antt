@@ -24,36 +24,22 @@ listed_now c =
     let q = c.truncate-then-count-len.ensures.items in
     (λ i. listed (p i) (q i)) ∙ listed_cut _ _ _ _ c.args.self.now.within c.args.self.now.placed (at c)
 
-pub invariant-of-self : goal.invariant-of-self
-invariant-of-self c =
+pub invariant_of-self : goal.invariant_of-self
+invariant_of-self c =
     let p = bytes_now c in
     let q = c.truncate-then-count-len.ensures.items in
     let l = listed_now c in
-    let t = c.args.self.now in (
-      omega (arith, c.truncate-then-count-len.ensures.len, t.few),
-      (
-        omega (arith, c.truncate.ensures.len, t.short),
-        (
-          omega (arith, c.truncate.ensures.capacity, t.roomy),
-          (
-            omega (arith, c.truncate-then-count-len.ensures.capacity, t.wide),
-            (
-              subst (λ (x : List ℕ). Within x (vec_items c.truncate-then-count-len.new.self)) (sym p) (subst (λ (x : List Span). Within (take (get_or (vec_items t.spans) c.args.count c.index.result.now).start (vec_items t.bytes)) x) (sym q) (within_cut _ _ _ _ t.within t.placed (at c))),
-              (
-                ap joint l ∙ joined_cut _ _ _ _ t.within t.placed (at c) t.joined ∙ sym p,
-                (
-                  subst (λ (x : List (List ℕ)). Placed x (vec_items c.truncate-then-count-len.new.self)) (sym l) (subst (λ (x : List Span). Placed (take c.args.count (names t)) x) (sym q) (placed_cut _ _ _ c.index.result.now t.within t.placed (at c))),
-                  (
-                    subst Distinct (sym l) (distinct_cut _ c.args.count t.distinct),
-                    tt,
-                  ),
-                ),
-              ),
-            ),
-          ),
-        ),
-      ),
-    )
+    let t = c.args.self.now in
+    record {
+      few = omega (arith, c.truncate-then-count-len.ensures.len, t.few);
+      short = omega (arith, c.truncate.ensures.len, t.short);
+      roomy = omega (arith, c.truncate.ensures.capacity, t.roomy);
+      wide = omega (arith, c.truncate-then-count-len.ensures.capacity, t.wide);
+      within = subst (λ (x : List ℕ). Within x (vec_items c.truncate-then-count-len.new.self)) (sym p) (subst (λ (x : List Span). Within (take (get_or (vec_items t.spans) c.args.count c.index.result.now).start (vec_items t.bytes)) x) (sym q) (within_cut _ _ _ _ t.within t.placed (at c)));
+      joined = ap joint l ∙ joined_cut _ _ _ _ t.within t.placed (at c) t.joined ∙ sym p;
+      placed = subst (λ (x : List (List ℕ)). Placed x (vec_items c.truncate-then-count-len.new.self)) (sym l) (subst (λ (x : List Span). Placed (take c.args.count (names t)) x) (sym q) (placed_cut _ _ _ c.index.result.now t.within t.placed (at c)));
+      distinct = subst Distinct (sym l) (distinct_cut _ c.args.count t.distinct);
+    }
 
 pub returns-then-count-len : goal.returns-then-count-len
 returns-then-count-len c = listed_now (goal.at.returns-then-count-len c).After-truncate-then-count-len

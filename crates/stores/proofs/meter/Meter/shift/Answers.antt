@@ -21,6 +21,6 @@ returns c =
       value = spanned (tank m) c.args.k _ _ (c.len-from.ensures ∙ m.working.ok.0) (c.len-n.ensures ∙ m.building.ok.0);
       after =
           let v = c.deref.ensures.value in
-          let ok = c.extend-from-slice.ensures.succeeds (fits _ _ _ c.args.k _ v (omega (arith, m.small, m.building.ok.0)) m.room) in
-          made_shifted (tank m) c.args.k _ _ (picked _ _ _ _ c.extend-from-slice.ensures.items ok ∙ ap (λ l. vec_items m.working ++ l) (moved _ _ c.args.k v)) c.truncate.ensures.items;
+          let ok = c.extend_from_slice.ensures.succeeds (fits _ _ _ c.args.k _ v (omega (arith, m.small, m.building.ok.0)) m.room) in
+          made_shifted (tank m) c.args.k _ _ (picked _ _ _ _ c.extend_from_slice.ensures.items ok ∙ ap (λ l. vec_items m.working ++ l) (moved _ _ c.args.k v)) c.truncate.ensures.items;
     }
