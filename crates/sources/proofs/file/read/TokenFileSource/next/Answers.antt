@@ -27,8 +27,8 @@ first c =
     let n = c.deref.ensures.value in
     ap (map (renamed is)) (drop_more (vec_items s.tokens) s.at c.index.result.now h) ∙ (λ i. renamed (sym n i) (sym e i) ∷ map (renamed is) behind) ∙ ap (λ t. t ∷ map (renamed is) behind) (sym c.rename-token.ensures)
 
-pub invariant-of-self : goal.invariant-of-self
-invariant-of-self c =
+pub invariant_of-self : goal.invariant_of-self
+invariant_of-self c =
     let s = c.args.self.now in
     (subst (λ (k : Tokens). lawful k ≡ true) (sym (first_after (filing s) _ _ (first c))) (lawful_after (filing s) s.kept), tt)
 

@@ -10,8 +10,8 @@ use Rattle.sources.proofs.records.reads.RecordsSource.next.Goals as goal
 pub returns-then-self : goal.returns-then-self
 returns-then-self c =
     let s = c.args.self.now in
-    let t = c.mend-record-token.result in
-    let m = sym c.mend-record-token.ensures in
+    let t = c.mend_record-token.result in
+    let m = sym c.mend_record-token.ensures in
     let ts = mended (Some t) s.closing (drop (s.at + 1) s.items.now) in
     let r : (meant s).rest ≡ t ∷ ts = ap (mended s.last s.closing) (drop_more s.items.now s.at _ c.if-self.true) ∙ (λ i. m i ∷ mended (Some (m i)) s.closing (drop (s.at + 1) s.items.now)) in
     record { value = first_read (meant s) t ts r; after = first_after (meant s) t ts r }
