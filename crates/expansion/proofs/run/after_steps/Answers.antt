@@ -5,7 +5,7 @@ use Rattle.expansion.proofs.Counts.{sane_lawful}
 use Rattle.expansion.proofs.run.after_steps.Goals as goal
 
 pub loop-i-init : goal.loop-i-init
-loop-i-init g c = fresh_holds (g.F.Book.defs c.args.feed.now) (view c.in-ok-processor.processor) _ c.in-ok-processor.ensures
+loop-i-init g c = fresh_holds (g.F.Book.defs c.args.feed.now) (view c.in_ok-processor.processor) _ c.in_ok-processor.ensures
 
 pub loop-i-preserved : goal.loop-i-preserved
 loop-i-preserved g c = c.step.ensures.moved.holds c.loop-i.invariant

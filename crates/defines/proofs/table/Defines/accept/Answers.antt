@@ -9,12 +9,12 @@ use Rattle.defines.specs.Sounds.{held_sound}
 use Rattle.defines.proofs.Removals.{without_len, grown_same, grown_is, grown_accepted, kept_accepted, found_accepted}
 use Rattle.defines.proofs.table.Defines.accept.Goals as goal
 
-pub returns-then-len-ge-MAX-DEFINES : goal.returns-then-len-ge-MAX-DEFINES
+pub returns-then-len-ge-MAX_DEFINES : goal.returns-then-len-ge-MAX_DEFINES
 unfolding held
-returns-then-len-ge-MAX-DEFINES c =
+returns-then-len-ge-MAX_DEFINES c =
     let s = c.args.self.now in
-    let z = c.give-back.new.self in
-    let told = c.give-back.ensures in
+    let z = c.give_back.new.self in
+    let told = c.give_back.ensures in
     let full : 512 ≤ length (held s).table = omega (arith, entries_len (vec_items s.kept) (vec_items s.table), s.table.ok.0, c.len.ensures) in
     let end : s.mark ≡ vec_len z.kept = omega (arith, ap length told.kept, length-take s.mark (vec_items s.kept), z.kept.ok.0, s.kept.ok.0, s.ordered, s.inside) in
     record {
@@ -46,7 +46,7 @@ returns c =
     let u = c.undefine.new.self in
     let z = c.enter.new.self in
     let name = c.args.name in
-    let kind = c.args.function-like in
+    let kind = c.args.function_like in
     let took = c.undefine.ensures in
     let put = c.enter.ensures in
     let e = made name kind (parameters s) (replacement s) in

@@ -3,14 +3,14 @@ use Rattle.defines.specs.Held.{held}
 use Rattle.defines.proofs.Rows.{entered_shelf, entered_within, entered_once}
 use Rattle.defines.proofs.table.Defines.enter.Goals as goal
 
-pub invariant-of-self : goal.invariant-of-self
+pub invariant_of-self : goal.invariant_of-self
 unfolding held
-invariant-of-self c =
+invariant_of-self c =
     let s = c.args.self.now in
     let end = c.len-end.ensures in
     let kept = vec_items s.kept in
     let table = vec_items s.table in
-    let pushed = c.push-reserved.ensures in (
+    let pushed = c.push_reserved.ensures in (
       s.room,
       (
         omega (arith, pushed.capacity, s.spaces),
@@ -45,7 +45,7 @@ returns c =
     let s = c.args.self.now in
     let end = c.len-end.ensures in
     record {
-      defs = entered_shelf (vec_items s.kept) (vec_items s.table) _ _ c.push-reserved.ensures.items s.mark s.body c.len-end.result c.args.name c.args.function-like (end ∙ s.kept.ok.0) refl;
+      defs = entered_shelf (vec_items s.kept) (vec_items s.table) _ _ c.push_reserved.ensures.items s.mark s.body c.len-end.result c.args.name c.args.function_like (end ∙ s.kept.ok.0) refl;
       kept = refl;
       mark = end;
       body = end;

@@ -6,5 +6,5 @@ use Rattle.defines.proofs.table.Defines.new.Goals as goal
 pub returns : goal.returns
 unfolding held
 returns c =
-    let kept = c.in-ok-kept in
-    (ap (shelf (vec_items kept.kept)) c.in-ok-table.ensures.items, kept.ensures.items, refl, refl)
+    let kept = c.in_ok-kept in
+    (ap (shelf (vec_items kept.kept)) c.in_ok-table.ensures.items, kept.ensures.items, refl, refl)

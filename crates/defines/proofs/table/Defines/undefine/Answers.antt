@@ -11,23 +11,23 @@ use Rattle.defines.proofs.Removals.{grown_is, grown_without, none_without}
 use Rattle.defines.proofs.Rows.{dulled, dulled_entries, dulled_within, dulled_once}
 use Rattle.defines.proofs.table.Defines.undefine.Goals as goal
 
-pub index-mut-requires : goal.index-mut-requires
+pub index_mut-requires : goal.index_mut-requires
 unfolding held
-index-mut-requires c =
+index_mut-requires c =
     let s = c.args.self.now in
     let f = found (held s) c.args.name c.in-Some.handle (sym c.find.ensures.value ∙ c.in-Some.is) in
     omega (arith, f.0, entries_len (vec_items s.kept) (vec_items s.table), s.table.ok.0)
 
-pub invariant-of-self : goal.invariant-of-self
+pub invariant_of-self : goal.invariant_of-self
 unfolding held
-invariant-of-self c =
+invariant_of-self c =
     let s = c.args.self.now in
     let kept = vec_items s.kept in
     let table = vec_items s.table in
     let h = c.in-Some.handle in
     let f = found (held s) c.args.name h (sym c.find.ensures.value ∙ c.in-Some.is) in
     let l : h < length table = omega (arith, f.0, entries_len kept table) in
-    let read = get_or_read_under table h (vec_len s.table) c.index-mut.result.now vacant c.index-mut.ensures.value (omega (arith, s.table.ok.0)) s.table.ok.0 in
+    let read = get_or_read_under table h (vec_len s.table) c.index_mut.result.now vacant c.index_mut.ensures.value (omega (arith, s.table.ok.0)) s.table.ok.0 in
     let same = ap (λ d. set table h (dulled d)) read in
     (s.room, (s.spaces, (s.small, (s.few, (s.ordered, (s.inside, (s.slim, (subst (Within s.mark) (sym same) (dulled_within kept table h l s.mark s.within), (subst Once (sym same) (dulled_once kept table h l s.once), tt)))))))))
 
@@ -42,8 +42,8 @@ returns-in-Some c =
     let is = sym c.find.ensures.value ∙ c.in-Some.is in
     let f = found (held s) name h is in
     let l : h < length table = omega (arith, f.0, entries_len kept table) in
-    let read = get_or_read_under table h (vec_len s.table) c.index-mut.result.now vacant c.index-mut.ensures.value (omega (arith, s.table.ok.0)) s.table.ok.0 in
-    let same : shelf kept (set table h (dulled c.index-mut.result.now)) ≡ without (held s) name =
+    let read = get_or_read_under table h (vec_len s.table) c.index_mut.result.now vacant c.index_mut.ensures.value (omega (arith, s.table.ok.0)) s.table.ok.0 in
+    let same : shelf kept (set table h (dulled c.index_mut.result.now)) ≡ without (held s) name =
     ap (λ d. shelf kept (set table h (dulled d))) read ∙ ap (λ es. record { table = es }) (dulled_entries kept table h l ∙ ap (cleared (entries kept table)) (sym is)) in
     record {
       defs = same;

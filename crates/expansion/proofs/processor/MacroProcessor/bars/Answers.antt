@@ -5,5 +5,5 @@ use Rattle.expansion.proofs.processor.MacroProcessor.bars.Goals as goal
 
 pub returns : goal.returns
 returns c =
-    c.is-some.ensures ∙ ap is_some c.find.ensures.value ∙ ap (λ l. is_some (place 0 c.args.name (map (λ u. Some u.name) l))) c.deref.ensures.value
+    c.is_some.ensures ∙ ap is_some c.find.ensures.value ∙ ap (λ l. is_some (place 0 c.args.name (map (λ u. Some u.name) l))) c.deref.ensures.value
     ∙ bars_is _ 0 c.args.name

@@ -5,4 +5,4 @@ use Rattle.expansion.proofs.processor.MacroProcessor.copy_arguments.Goals as goa
 
 pub loop-i-preserved : goal.loop-i-preserved
 loop-i-preserved c =
-    copy_more (view c.args.self.now) (view c.loop-i.self) _ (vec_items c.args.self.now.arguments) c.args.from c.args.to c.loop-i.i _ c.loop-i.invariant c.set-argument.ensures c.argument-s.ensures
+    copy_more (view c.args.self.now) (view c.loop-i.self) _ (vec_items c.args.self.now.arguments) c.args.from c.args.to c.loop-i.i _ c.loop-i.invariant c.set_argument.ensures c.argument-s.ensures

@@ -16,8 +16,8 @@ returns g c =
     let u = tank c.spend.new.self in
     let test = sym c.if-not-spend.ensures.test in
     record {
-      moved = then_moved _ _ _ _ _ _ t u _ (charged_moved (g.F.Book.defs c.args.feed.now) (view c.args.self.now) t u _ test c.spend.ensures.after) c.move-on.ensures;
+      moved = then_moved _ _ _ _ _ _ t u _ (charged_moved (g.F.Book.defs c.args.feed.now) (view c.args.self.now) t u _ test c.spend.ensures.after) c.move_on.ensures;
       pays =
-          let more : t.moves < c.move-on.new.meter.moves = omega (arith, charged_more t u _ test c.spend.ensures.after, c.move-on.ensures.went.moves) in
-          paid_for c.move-on.result t (tank c.move-on.new.meter) more;
+          let more : t.moves < c.move_on.new.meter.moves = omega (arith, charged_more t u _ test c.spend.ensures.after, c.move_on.ensures.went.moves) in
+          paid_for c.move_on.result t (tank c.move_on.new.meter) more;
     }

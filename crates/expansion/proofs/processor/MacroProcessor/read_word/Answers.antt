@@ -3,8 +3,8 @@ use Rattle.expansion.specs.Processor.{blank}
 use Rattle.expansion.proofs.Items.{last_read}
 use Rattle.expansion.proofs.processor.MacroProcessor.read_word.Goals as goal
 
-pub overflow-add-at : goal.overflow-add-at
-overflow-add-at g c =
+pub overflow_add-at : goal.overflow_add-at
+overflow_add-at g c =
     let us = c.args.self.now.invocations in
     let e = last_read (vec_items us) c.len-n.result c.index-u.result.now blank (omega arith) (c.len-n.ensures ∙ us.ok.0) c.index-u.ensures in
     let z = ap (λ x. x.at) e in

@@ -15,7 +15,7 @@ loop-answer-preserved g c = then_moved _ _ _ _ _ _ _ (tank c.loop-answer.meter) 
 
 pub loop-answer-smaller : goal.loop-answer-smaller
 loop-answer-smaller g c =
-    let t = c.in-default.ensures in
+    let t = c.in_default.ensures in
     omega (arith, t.pays, t.moved.went.budget, c.turn.new.meter.within)
 
 pub returns-in-Some : goal.returns-in-Some

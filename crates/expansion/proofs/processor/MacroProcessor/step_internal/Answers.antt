@@ -4,18 +4,18 @@ use Rattle.expansion.specs.Processor.{view}
 use Rattle.expansion.proofs.Motions.{read_moved, fed_moved, input_moved}
 use Rattle.expansion.proofs.processor.MacroProcessor.step_internal.Goals as goal
 
-pub returns-then-is-expanding-define : goal.returns-then-is-expanding-define
-returns-then-is-expanding-define g c =
-    read_moved _ (view c.args.self.now) _ (tank c.args.meter.now) _ _ c.is-expanding-define.ensures c.if-is-expanding-define.true c.read-invocation.ensures
+pub returns-then-is_expanding_define : goal.returns-then-is_expanding_define
+returns-then-is_expanding_define g c =
+    read_moved _ (view c.args.self.now) _ (tank c.args.meter.now) _ _ c.is_expanding_define.ensures c.if-is_expanding_define.true c.read_invocation.ensures
 
 pub returns-then-len-eq0 : goal.returns-then-len-eq0
 returns-then-len-eq0 g c =
     let p = c.args.self.now in
     let z : length (vec_items p.below) ≡ 0 = omega (arith, p.below.ok.0) in
-    fed_moved _ _ (view p) _ _ _ c.is-expanding-define.ensures c.if-is-expanding-define.false z c.step.ensures.handles c.step.ensures.stores
+    fed_moved _ _ (view p) _ _ _ c.is_expanding_define.ensures c.if-is_expanding_define.false z c.step.ensures.handles c.step.ensures.stores
 
 pub returns-else-len-eq0 : goal.returns-else-len-eq0
 returns-else-len-eq0 g c =
     let p = c.args.self.now in
     let m = c.args.meter.now in
-    input_moved _ (view p) _ (tank m) (read (vec_items m.working) p.input) c.read-input.ensures.after
+    input_moved _ (view p) _ (tank m) (read (vec_items m.working) p.input) c.read_input.ensures.after

@@ -11,7 +11,7 @@ returns-then-not-spend g c = record {
 }
 
 pub meet-requires : goal.meet-requires
-meet-requires g c = (c.move-on-met.ensures.holds c.requires).0
+meet-requires g c = (c.move_on-met.ensures.holds c.requires).0
 
 pub returns : goal.returns
 returns g c =
@@ -20,11 +20,11 @@ returns g c =
     let test = sym c.if-not-spend.ensures.test in
     let more = charged_more t u _ test c.spend.ensures.after in
     let charged = charged_moved (g.F.Book.defs c.args.feed.now) (view c.args.self.now) t u _ test c.spend.ensures.after in
-    let met = met_moved _ (view c.move-on-met.new.self) (tank c.move-on-met.new.meter) _ _ _ _ c.meet.ensures in
-    let moved = then_moved _ _ _ _ _ _ t u _ charged (then_moved _ _ _ _ _ _ u _ _ c.move-on-met.ensures met) in
+    let met = met_moved _ (view c.move_on-met.new.self) (tank c.move_on-met.new.meter) _ _ _ _ c.meet.ensures in
+    let moved = then_moved _ _ _ _ _ _ t u _ charged (then_moved _ _ _ _ _ _ u _ _ c.move_on-met.ensures met) in
     record {
       moved = moved;
       pays =
-          let later : t.moves < c.meet.new.meter.moves = omega (arith, more, c.move-on-met.ensures.went.moves, met.went.moves) in
+          let later : t.moves < c.meet.new.meter.moves = omega (arith, more, c.move_on-met.ensures.went.moves, met.went.moves) in
           paid c.meet.result t (tank c.meet.new.meter) later;
     }

@@ -75,7 +75,7 @@ returns-in_err-numbers c =
     }
 
 pub invariant_of-result : goal.invariant_of-result
-invariant_of-result c = (renamed_lawful (vec_items c.in_ok-numbers.numbers) (vec_items c.in_ok-tokens.tokens) ∙ laws (goal.at.invariant_of-result c).After-lengths_fit, tt)
+invariant_of-result c = record { kept = renamed_lawful (vec_items c.in_ok-numbers.numbers) (vec_items c.in_ok-tokens.tokens) ∙ laws (goal.at.invariant_of-result c).After-lengths_fit }
 
 pub returns : goal.returns
 returns c =

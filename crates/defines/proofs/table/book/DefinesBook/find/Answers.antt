@@ -9,4 +9,4 @@ pub returns : goal.returns
 unfolding held
 returns c =
     let s = c.args.self.now in
-    record { value = c.find.ensures.value ∙ ap (λ t. place 0 c.args.name (map key_of t)) c.as-slice.ensures.value ∙ sought (vec_items s.kept) (vec_items s.table) 0 c.args.name }
+    record { value = c.find.ensures.value ∙ ap (λ t. place 0 c.args.name (map key_of t)) c.as_slice.ensures.value ∙ sought (vec_items s.kept) (vec_items s.table) 0 c.args.name }

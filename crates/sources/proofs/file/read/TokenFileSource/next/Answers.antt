@@ -30,7 +30,7 @@ first c =
 pub invariant_of-self : goal.invariant_of-self
 invariant_of-self c =
     let s = c.args.self.now in
-    (subst (λ (k : Tokens). lawful k ≡ true) (sym (first_after (filing s) _ _ (first c))) (lawful_after (filing s) s.kept), tt)
+    record { kept = subst (λ (k : Tokens). lawful k ≡ true) (sym (first_after (filing s) _ _ (first c))) (lawful_after (filing s) s.kept) }
 
 pub returns : goal.returns
 returns c =
