@@ -59,52 +59,52 @@ invariant-equality-loop-op g l =
 abbrev pub decreases-equality-loop-op : goal.decreases-equality-loop-op
 decreases-equality-loop-op g l = ahead l.self.carry (tank l.meter)
 
-abbrev pub decreases-bit-and : goal.decreases-bit-and
-decreases-bit-and g l = (64 - l.depth) * 12 + 7
+abbrev pub decreases-bit_and : goal.decreases-bit_and
+decreases-bit_and g l = (64 - l.depth) * 12 + 7
 
-abbrev pub invariant-bit-and-loop-op : goal.invariant-bit-and-loop-op
-invariant-bit-and-loop-op g l =
+abbrev pub invariant-bit_and-loop-op : goal.invariant-bit_and-loop-op
+invariant-bit_and-loop-op g l =
     Looked (g.F.Book.defs l.initial.lexer) l.initial.self (tank l.initial.meter) (g.F.Book.defs l.lexer) l.self (tank l.meter)
 
-abbrev pub decreases-bit-and-loop-op : goal.decreases-bit-and-loop-op
-decreases-bit-and-loop-op g l = ahead l.self.carry (tank l.meter)
+abbrev pub decreases-bit_and-loop-op : goal.decreases-bit_and-loop-op
+decreases-bit_and-loop-op g l = ahead l.self.carry (tank l.meter)
 
-abbrev pub decreases-bit-xor : goal.decreases-bit-xor
-decreases-bit-xor g l = (64 - l.depth) * 12 + 8
+abbrev pub decreases-bit_xor : goal.decreases-bit_xor
+decreases-bit_xor g l = (64 - l.depth) * 12 + 8
 
-abbrev pub invariant-bit-xor-loop-op : goal.invariant-bit-xor-loop-op
-invariant-bit-xor-loop-op g l =
+abbrev pub invariant-bit_xor-loop-op : goal.invariant-bit_xor-loop-op
+invariant-bit_xor-loop-op g l =
     Looked (g.F.Book.defs l.initial.lexer) l.initial.self (tank l.initial.meter) (g.F.Book.defs l.lexer) l.self (tank l.meter)
 
-abbrev pub decreases-bit-xor-loop-op : goal.decreases-bit-xor-loop-op
-decreases-bit-xor-loop-op g l = ahead l.self.carry (tank l.meter)
+abbrev pub decreases-bit_xor-loop-op : goal.decreases-bit_xor-loop-op
+decreases-bit_xor-loop-op g l = ahead l.self.carry (tank l.meter)
 
-abbrev pub decreases-bit-or : goal.decreases-bit-or
-decreases-bit-or g l = (64 - l.depth) * 12 + 9
+abbrev pub decreases-bit_or : goal.decreases-bit_or
+decreases-bit_or g l = (64 - l.depth) * 12 + 9
 
-abbrev pub invariant-bit-or-loop-op : goal.invariant-bit-or-loop-op
-invariant-bit-or-loop-op g l =
+abbrev pub invariant-bit_or-loop-op : goal.invariant-bit_or-loop-op
+invariant-bit_or-loop-op g l =
     Looked (g.F.Book.defs l.initial.lexer) l.initial.self (tank l.initial.meter) (g.F.Book.defs l.lexer) l.self (tank l.meter)
 
-abbrev pub decreases-bit-or-loop-op : goal.decreases-bit-or-loop-op
-decreases-bit-or-loop-op g l = ahead l.self.carry (tank l.meter)
+abbrev pub decreases-bit_or-loop-op : goal.decreases-bit_or-loop-op
+decreases-bit_or-loop-op g l = ahead l.self.carry (tank l.meter)
 
-abbrev pub decreases-logical-and : goal.decreases-logical-and
-decreases-logical-and g l = (64 - l.depth) * 12 + 10
+abbrev pub decreases-logical_and : goal.decreases-logical_and
+decreases-logical_and g l = (64 - l.depth) * 12 + 10
 
-abbrev pub invariant-logical-and-loop-op : goal.invariant-logical-and-loop-op
-invariant-logical-and-loop-op g l =
+abbrev pub invariant-logical_and-loop-op : goal.invariant-logical_and-loop-op
+invariant-logical_and-loop-op g l =
     Looked (g.F.Book.defs l.initial.lexer) l.initial.self (tank l.initial.meter) (g.F.Book.defs l.lexer) l.self (tank l.meter)
 
-abbrev pub decreases-logical-and-loop-op : goal.decreases-logical-and-loop-op
-decreases-logical-and-loop-op g l = ahead l.self.carry (tank l.meter)
+abbrev pub decreases-logical_and-loop-op : goal.decreases-logical_and-loop-op
+decreases-logical_and-loop-op g l = ahead l.self.carry (tank l.meter)
 
-abbrev pub decreases-logical-or : goal.decreases-logical-or
-decreases-logical-or g l = (64 - l.depth) * 12 + 11
+abbrev pub decreases-logical_or : goal.decreases-logical_or
+decreases-logical_or g l = (64 - l.depth) * 12 + 11
 
-abbrev pub invariant-logical-or-loop-op : goal.invariant-logical-or-loop-op
-invariant-logical-or-loop-op g l =
+abbrev pub invariant-logical_or-loop-op : goal.invariant-logical_or-loop-op
+invariant-logical_or-loop-op g l =
     Looked (g.F.Book.defs l.initial.lexer) l.initial.self (tank l.initial.meter) (g.F.Book.defs l.lexer) l.self (tank l.meter)
 
-abbrev pub decreases-logical-or-loop-op : goal.decreases-logical-or-loop-op
-decreases-logical-or-loop-op g l = ahead l.self.carry (tank l.meter)
+abbrev pub decreases-logical_or-loop-op : goal.decreases-logical_or-loop-op
+decreases-logical_or-loop-op g l = ahead l.self.carry (tank l.meter)

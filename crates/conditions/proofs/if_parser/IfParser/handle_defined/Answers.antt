@@ -6,43 +6,43 @@ use Rattle.conditions.proofs.if_parser.IfParser.handle_defined.Goals as goal
 
 pub returns-in-Ident : goal.returns-in-Ident
 returns-in-Ident g c = record {
-  looked = c.expect-raw-next.ensures.looked;
-  took = c.in-ok-next.ensures.took;
+  looked = c.expect_raw_next.ensures.looked;
+  took = c.in_ok-next.ensures.took;
   tells =
-      let fits : SFits w64 c.in-force.result = search rules in
-      (_, to_z-of_z w64 _ fits ∙ c.in-force.ensures);
+      let fits : SFits w64 c.in_force.result = search rules in
+      (_, to_z-of_z w64 _ fits ∙ c.in_force.ensures);
 }
 
-pub returns-in-err-inner : goal.returns-in-err-inner
-returns-in-err-inner g c = record {
-  looked = then_looked _ _ _ _ c.expect-raw-next.new.self _ _ (tank c.expect-raw-next.new.meter) _ c.expect-raw-next.ensures.looked c.expect-raw-next-in-Punct-LeftParen.ensures.looked;
-  took = failed_took _ _ _ c.from-residual-in-err-inner.ensures.0;
-  tells = failed_tells (g.F.Book.defs c.expect-raw-next-in-Punct-LeftParen.new.lexer) _ c.from-residual-in-err-inner.ensures.0;
+pub returns-in_err-inner : goal.returns-in_err-inner
+returns-in_err-inner g c = record {
+  looked = then_looked _ _ _ _ c.expect_raw_next.new.self _ _ (tank c.expect_raw_next.new.meter) _ c.expect_raw_next.ensures.looked c.expect_raw_next-in-Punct-LeftParen.ensures.looked;
+  took = failed_took _ _ _ c.from_residual-in_err-inner.ensures.0;
+  tells = failed_tells (g.F.Book.defs c.expect_raw_next-in-Punct-LeftParen.new.lexer) _ c.from_residual-in_err-inner.ensures.0;
 }
 
-pub returns-in-default-value : goal.returns-in-default-value
-returns-in-default-value g c = record {
-  looked = then_looked _ _ _ _ c.expect-raw-next.new.self _ _ (tank c.expect-raw-next.new.meter) _ c.expect-raw-next.ensures.looked c.expect-raw-next-in-Punct-LeftParen.ensures.looked;
+pub returns-in_default-value : goal.returns-in_default-value
+returns-in_default-value g c = record {
+  looked = then_looked _ _ _ _ c.expect_raw_next.new.self _ _ (tank c.expect_raw_next.new.meter) _ c.expect_raw_next.ensures.looked c.expect_raw_next-in-Punct-LeftParen.ensures.looked;
   took = tt;
   tells = tt;
 }
 
-pub returns-in-err-close : goal.returns-in-err-close
-returns-in-err-close g c =
-    let name = then_looked _ _ _ _ c.expect-raw-next.new.self _ _ (tank c.expect-raw-next.new.meter) _ c.expect-raw-next.ensures.looked c.expect-raw-next-in-Punct-LeftParen.ensures.looked in
+pub returns-in_err-close : goal.returns-in_err-close
+returns-in_err-close g c =
+    let name = then_looked _ _ _ _ c.expect_raw_next.new.self _ _ (tank c.expect_raw_next.new.meter) _ c.expect_raw_next.ensures.looked c.expect_raw_next-in-Punct-LeftParen.ensures.looked in
     record {
-      looked = then_looked _ _ _ _ c.expect-raw-next-in-Punct-LeftParen.new.self _ _ (tank c.expect-raw-next-in-Punct-LeftParen.new.meter) _ name c.close.ensures.looked;
-      took = failed_took _ _ _ c.from-residual-in-err-close.ensures.0;
-      tells = failed_tells (g.F.Book.defs c.close.new.lexer) _ c.from-residual-in-err-close.ensures.0;
+      looked = then_looked _ _ _ _ c.expect_raw_next-in-Punct-LeftParen.new.self _ _ (tank c.expect_raw_next-in-Punct-LeftParen.new.meter) _ name c.close.ensures.looked;
+      took = failed_took _ _ _ c.from_residual-in_err-close.ensures.0;
+      tells = failed_tells (g.F.Book.defs c.close.new.lexer) _ c.from_residual-in_err-close.ensures.0;
     }
 
-pub returns-in-ok-close : goal.returns-in-ok-close
-returns-in-ok-close g c =
-    let name = then_looked _ _ _ _ c.expect-raw-next.new.self _ _ (tank c.expect-raw-next.new.meter) _ c.expect-raw-next.ensures.looked c.expect-raw-next-in-Punct-LeftParen.ensures.looked in
+pub returns-in_ok-close : goal.returns-in_ok-close
+returns-in_ok-close g c =
+    let name = then_looked _ _ _ _ c.expect_raw_next.new.self _ _ (tank c.expect_raw_next.new.meter) _ c.expect_raw_next.ensures.looked c.expect_raw_next-in-Punct-LeftParen.ensures.looked in
     record {
-      looked = then_looked _ _ _ _ c.expect-raw-next-in-Punct-LeftParen.new.self _ _ (tank c.expect-raw-next-in-Punct-LeftParen.new.meter) _ name c.close.ensures.looked;
-      took = omega (arith, c.in-ok-next.ensures.took, c.expect-raw-next-in-Punct-LeftParen.ensures.looked.less, c.close.ensures.looked.less);
+      looked = then_looked _ _ _ _ c.expect_raw_next-in-Punct-LeftParen.new.self _ _ (tank c.expect_raw_next-in-Punct-LeftParen.new.meter) _ name c.close.ensures.looked;
+      took = omega (arith, c.in_ok-next.ensures.took, c.expect_raw_next-in-Punct-LeftParen.ensures.looked.less, c.close.ensures.looked.less);
       tells =
-          let fits : SFits w64 c.in-force-in-Punct-LeftParen.result = search rules in
-          (_, to_z-of_z w64 _ fits ∙ c.in-force-in-Punct-LeftParen.ensures);
+          let fits : SFits w64 c.in_force-in-Punct-LeftParen.result = search rules in
+          (_, to_z-of_z w64 _ fits ∙ c.in_force-in-Punct-LeftParen.ensures);
     }

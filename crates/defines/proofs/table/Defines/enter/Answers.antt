@@ -10,34 +10,18 @@ invariant_of-self c =
     let end = c.len-end.ensures in
     let kept = vec_items s.kept in
     let table = vec_items s.table in
-    let pushed = c.push_reserved.ensures in (
-      s.room,
-      (
-        omega (arith, pushed.capacity, s.spaces),
-        (
-          s.small,
-          (
-            omega (arith, pushed.len),
-            (
-              omega arith,
-              (
-                omega (arith, end),
-                (
-                  omega arith,
-                  (
-                    entered_within kept table _ _ pushed.items s.mark c.len-end.result (omega (arith, s.ordered, s.inside)) (omega (arith, s.ordered, s.inside), omega (arith, s.slim), omega (arith, s.inside)) s.within,
-                    (
-                      entered_once kept table _ _ pushed.items c.requires.free s.once,
-                      tt,
-                    ),
-                  ),
-                ),
-              ),
-            ),
-          ),
-        ),
-      ),
-    )
+    let pushed = c.push_reserved.ensures in
+    record {
+      room = s.room;
+      spaces = omega (arith, pushed.capacity, s.spaces);
+      small = s.small;
+      few = omega (arith, pushed.len);
+      ordered = omega arith;
+      inside = omega (arith, end);
+      slim = omega arith;
+      within = entered_within kept table _ _ pushed.items s.mark c.len-end.result (omega (arith, s.ordered, s.inside)) (omega (arith, s.ordered, s.inside), omega (arith, s.slim), omega (arith, s.inside)) s.within;
+      once = entered_once kept table _ _ pushed.items c.requires.free s.once;
+    }
 
 pub returns : goal.returns
 unfolding held

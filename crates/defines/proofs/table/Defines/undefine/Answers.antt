@@ -29,7 +29,17 @@ invariant_of-self c =
     let l : h < length table = omega (arith, f.0, entries_len kept table) in
     let read = get_or_read_under table h (vec_len s.table) c.index_mut.result.now vacant c.index_mut.ensures.value (omega (arith, s.table.ok.0)) s.table.ok.0 in
     let same = ap (λ d. set table h (dulled d)) read in
-    (s.room, (s.spaces, (s.small, (s.few, (s.ordered, (s.inside, (s.slim, (subst (Within s.mark) (sym same) (dulled_within kept table h l s.mark s.within), (subst Once (sym same) (dulled_once kept table h l s.once), tt)))))))))
+    record {
+      room = s.room;
+      spaces = s.spaces;
+      small = s.small;
+      few = s.few;
+      ordered = s.ordered;
+      inside = s.inside;
+      slim = s.slim;
+      within = subst (Within s.mark) (sym same) (dulled_within kept table h l s.mark s.within);
+      once = subst Once (sym same) (dulled_once kept table h l s.once);
+    }
 
 pub returns-in-Some : goal.returns-in-Some
 unfolding held
