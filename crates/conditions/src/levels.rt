@@ -31,7 +31,7 @@ impl IfParser {
         self.logical_or(lexer, meter, 0)
     }
 
-    #[cycle(additive_atom_bit_and_bit_or_bit_xor_comparative_equality_logical_and_logical_or_multiplicative_shift_unary)]
+    #[cycle(levels)]
     fn atom<F: Feed>(&mut self, lexer: &mut F, meter: &mut Meter, depth: u32) -> Result<i64, Fault>
         requires { Holds (F.Book.defs lexer.old) (view self.old.processor) }
         ensures looked { Looked (F.Book.defs lexer.old) self.old (tank meter.old) (F.Book.defs lexer.new) self.new (tank meter.new) }
@@ -54,7 +54,7 @@ impl IfParser {
         }
     }
 
-    #[cycle(additive_atom_bit_and_bit_or_bit_xor_comparative_equality_logical_and_logical_or_multiplicative_shift_unary)]
+    #[cycle(levels)]
     fn unary<F: Feed>(&mut self, lexer: &mut F, meter: &mut Meter, depth: u32) -> Result<i64, Fault>
         requires { Holds (F.Book.defs lexer.old) (view self.old.processor) }
         ensures looked { Looked (F.Book.defs lexer.old) self.old (tank meter.old) (F.Book.defs lexer.new) self.new (tank meter.new) }
@@ -72,7 +72,7 @@ impl IfParser {
         self.apply_sign(sign, v)
     }
 
-    #[cycle(additive_atom_bit_and_bit_or_bit_xor_comparative_equality_logical_and_logical_or_multiplicative_shift_unary)]
+    #[cycle(levels)]
     fn multiplicative<F: Feed>(
         &mut self,
         lexer: &mut F,
@@ -91,7 +91,7 @@ impl IfParser {
         Ok(left)
     }
 
-    #[cycle(additive_atom_bit_and_bit_or_bit_xor_comparative_equality_logical_and_logical_or_multiplicative_shift_unary)]
+    #[cycle(levels)]
     fn additive<F: Feed>(
         &mut self,
         lexer: &mut F,
@@ -110,7 +110,7 @@ impl IfParser {
         Ok(left)
     }
 
-    #[cycle(additive_atom_bit_and_bit_or_bit_xor_comparative_equality_logical_and_logical_or_multiplicative_shift_unary)]
+    #[cycle(levels)]
     fn shift<F: Feed>(&mut self, lexer: &mut F, meter: &mut Meter, depth: u32) -> Result<i64, Fault>
         requires { Holds (F.Book.defs lexer.old) (view self.old.processor) }
         ensures looked { Looked (F.Book.defs lexer.old) self.old (tank meter.old) (F.Book.defs lexer.new) self.new (tank meter.new) }
@@ -124,7 +124,7 @@ impl IfParser {
         Ok(left)
     }
 
-    #[cycle(additive_atom_bit_and_bit_or_bit_xor_comparative_equality_logical_and_logical_or_multiplicative_shift_unary)]
+    #[cycle(levels)]
     fn comparative<F: Feed>(
         &mut self,
         lexer: &mut F,
@@ -143,7 +143,7 @@ impl IfParser {
         Ok(left)
     }
 
-    #[cycle(additive_atom_bit_and_bit_or_bit_xor_comparative_equality_logical_and_logical_or_multiplicative_shift_unary)]
+    #[cycle(levels)]
     fn equality<F: Feed>(
         &mut self,
         lexer: &mut F,
@@ -162,7 +162,7 @@ impl IfParser {
         Ok(left)
     }
 
-    #[cycle(additive_atom_bit_and_bit_or_bit_xor_comparative_equality_logical_and_logical_or_multiplicative_shift_unary)]
+    #[cycle(levels)]
     fn bit_and<F: Feed>(
         &mut self,
         lexer: &mut F,
@@ -181,7 +181,7 @@ impl IfParser {
         Ok(left)
     }
 
-    #[cycle(additive_atom_bit_and_bit_or_bit_xor_comparative_equality_logical_and_logical_or_multiplicative_shift_unary)]
+    #[cycle(levels)]
     fn bit_xor<F: Feed>(
         &mut self,
         lexer: &mut F,
@@ -200,7 +200,7 @@ impl IfParser {
         Ok(left)
     }
 
-    #[cycle(additive_atom_bit_and_bit_or_bit_xor_comparative_equality_logical_and_logical_or_multiplicative_shift_unary)]
+    #[cycle(levels)]
     fn bit_or<F: Feed>(
         &mut self,
         lexer: &mut F,
@@ -219,7 +219,7 @@ impl IfParser {
         Ok(left)
     }
 
-    #[cycle(additive_atom_bit_and_bit_or_bit_xor_comparative_equality_logical_and_logical_or_multiplicative_shift_unary)]
+    #[cycle(levels)]
     fn logical_and<F: Feed>(
         &mut self,
         lexer: &mut F,
@@ -238,7 +238,7 @@ impl IfParser {
         Ok(left)
     }
 
-    #[cycle(additive_atom_bit_and_bit_or_bit_xor_comparative_equality_logical_and_logical_or_multiplicative_shift_unary)]
+    #[cycle(levels)]
     fn logical_or<F: Feed>(
         &mut self,
         lexer: &mut F,

@@ -23,7 +23,7 @@ use tokens::token::Token;
 impl<S: Source + Drop> DirectiveProcessor<S> {
     // Nothing is read, defined or open yet.
     pub fn new(heap: Global, source: S) -> Result<DirectiveProcessor<S>, AllocError>
-        ensures { IfOk result (λ p. (means p.reader.source ≡ means source) × (held p.defines ≡ empty) × (p.blocks.stack.items ≡ []) × (p.blocks.skipping ≡ false) × (p.line_offset ≡ pos 0) × (p.had_directive ≡ false) × (p.had_non_directive_token ≡ false)) }
+        ensures { IfOk result (λ p. (S.means p.reader.source ≡ S.means source) × (held p.defines ≡ empty) × (p.blocks.stack.items ≡ []) × (p.blocks.skipping ≡ false) × (p.line_offset ≡ pos 0) × (p.had_directive ≡ false) × (p.had_non_directive_token ≡ false)) }
     {
         let defines = Defines::new(heap)?;
         let blocks = Blocks::new(heap)?;

@@ -20,7 +20,7 @@ use tokens::token::Token;
 impl<S: Source + Drop> Preprocessor<S> {
     // All memory is taken here.
     pub fn new(heap: Global, source: S, budget: u64) -> Result<Preprocessor<S>, AllocError>
-        ensures { IfOk result (λ p. (means p.directives.reader.source ≡ means source) × (book_of p ≡ empty) × (p.directives.blocks.stack.items ≡ []) × (in_expansion p ≡ []) × (spent_of p ≡ fresh budget) × (p.fault ≡ None)) }
+        ensures { IfOk result (λ p. (S.means p.directives.reader.source ≡ S.means source) × (book_of p ≡ empty) × (p.directives.blocks.stack.items ≡ []) × (in_expansion p ≡ []) × (spent_of p ≡ fresh budget) × (p.fault ≡ None)) }
     {
         let directives = DirectiveProcessor::new(heap, source)?;
         let processor = MacroProcessor::new(heap)?;

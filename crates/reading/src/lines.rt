@@ -18,7 +18,7 @@ use tokens::location::{Location, default_location};
 
 impl<S: Source> Reader<S> {
     pub fn new(source: S) -> Reader<S>
-        ensures { means result.source ≡ means source }
+        ensures { S.means result.source ≡ S.means source }
     {
         Reader {
             source,
@@ -27,10 +27,10 @@ impl<S: Source> Reader<S> {
     }
 
     pub fn get_lexer_token(&mut self) -> Step<LexerToken>
-        ensures value { result ≡ told (read (means self.old.source)) }
-        ensures after { means self.new.source ≡ after (means self.old.source) }
-        ensures falls { OnOk result (length (means self.new.source).rest < length (means self.old.source).rest) }
-        ensures never { length (means self.new.source).rest ≤ length (means self.old.source).rest }
+        ensures value { result ≡ told (read (S.means self.old.source)) }
+        ensures after { S.means self.new.source ≡ after (S.means self.old.source) }
+        ensures falls { OnOk result (length (S.means self.new.source).rest < length (S.means self.old.source).rest) }
+        ensures never { length (S.means self.new.source).rest ≤ length (S.means self.old.source).rest }
     {
         match self.source.next() {
             Ok(token) => {
@@ -50,7 +50,7 @@ impl<S: Source> Reader<S> {
     }
 
     pub fn expect_a_lexer_token(&mut self, current_location: Location) -> Step<LexerToken>
-        ensures { length (means self.new.source).rest ≤ length (means self.old.source).rest }
+        ensures { length (S.means self.new.source).rest ≤ length (S.means self.old.source).rest }
     {
         match self.get_lexer_token() {
             Err(StepExit::Finished) => Err(StepExit::Error(fault(
@@ -70,7 +70,7 @@ impl<S: Source> Reader<S> {
     }
 
     pub fn expect_lexer_ident(&mut self, current_location: Location) -> Step<(u32, Location)>
-        ensures { length (means self.new.source).rest ≤ length (means self.old.source).rest }
+        ensures { length (S.means self.new.source).rest ≤ length (S.means self.old.source).rest }
     {
         let token = self.expect_a_lexer_token(current_location)?;
         match token.value {

@@ -13,11 +13,11 @@ returns-in-Ident g c = record {
       (_, to_z-of_z w64 _ fits ∙ c.in_force.ensures);
 }
 
-pub returns-in_err-inner : goal.returns-in_err-inner
-returns-in_err-inner g c = record {
+pub returns-in_err-inner-in-Punct-LeftParen : goal.returns-in_err-inner-in-Punct-LeftParen
+returns-in_err-inner-in-Punct-LeftParen g c = record {
   looked = then_looked _ _ _ _ c.expect_raw_next.new.self _ _ (tank c.expect_raw_next.new.meter) _ c.expect_raw_next.ensures.looked c.expect_raw_next-in-Punct-LeftParen.ensures.looked;
-  took = failed_took _ _ _ c.from_residual-in_err-inner.ensures.0;
-  tells = failed_tells (g.F.Book.defs c.expect_raw_next-in-Punct-LeftParen.new.lexer) _ c.from_residual-in_err-inner.ensures.0;
+  took = failed_took _ _ _ c.from_residual-in_err-inner-in-Punct-LeftParen.ensures.0;
+  tells = failed_tells (g.F.Book.defs c.expect_raw_next-in-Punct-LeftParen.new.lexer) _ c.from_residual-in_err-inner-in-Punct-LeftParen.ensures.0;
 }
 
 pub returns-in_default-value : goal.returns-in_default-value
@@ -27,17 +27,17 @@ returns-in_default-value g c = record {
   tells = tt;
 }
 
-pub returns-in_err-close : goal.returns-in_err-close
-returns-in_err-close g c =
+pub returns-in_err-close-in-Punct-LeftParen : goal.returns-in_err-close-in-Punct-LeftParen
+returns-in_err-close-in-Punct-LeftParen g c =
     let name = then_looked _ _ _ _ c.expect_raw_next.new.self _ _ (tank c.expect_raw_next.new.meter) _ c.expect_raw_next.ensures.looked c.expect_raw_next-in-Punct-LeftParen.ensures.looked in
     record {
       looked = then_looked _ _ _ _ c.expect_raw_next-in-Punct-LeftParen.new.self _ _ (tank c.expect_raw_next-in-Punct-LeftParen.new.meter) _ name c.close.ensures.looked;
-      took = failed_took _ _ _ c.from_residual-in_err-close.ensures.0;
-      tells = failed_tells (g.F.Book.defs c.close.new.lexer) _ c.from_residual-in_err-close.ensures.0;
+      took = failed_took _ _ _ c.from_residual-in_err-close-in-Punct-LeftParen.ensures.0;
+      tells = failed_tells (g.F.Book.defs c.close.new.lexer) _ c.from_residual-in_err-close-in-Punct-LeftParen.ensures.0;
     }
 
-pub returns-in_ok-close : goal.returns-in_ok-close
-returns-in_ok-close g c =
+pub returns-in_ok-close-in-Punct-LeftParen : goal.returns-in_ok-close-in-Punct-LeftParen
+returns-in_ok-close-in-Punct-LeftParen g c =
     let name = then_looked _ _ _ _ c.expect_raw_next.new.self _ _ (tank c.expect_raw_next.new.meter) _ c.expect_raw_next.ensures.looked c.expect_raw_next-in-Punct-LeftParen.ensures.looked in
     record {
       looked = then_looked _ _ _ _ c.expect_raw_next-in-Punct-LeftParen.new.self _ _ (tank c.expect_raw_next-in-Punct-LeftParen.new.meter) _ name c.close.ensures.looked;

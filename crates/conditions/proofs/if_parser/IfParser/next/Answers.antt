@@ -36,16 +36,16 @@ returns-then-name-eq-DEFINED g c =
       settled = defined_named _ _ c.in-Ident.is (search rules);
     }
 
-pub returns-in_err-passed : goal.returns-in_err-passed
-returns-in_err-passed g c =
+pub returns-in_err-passed-in-Ok : goal.returns-in_err-passed-in-Ok
+returns-in_err-passed-in-Ok g c =
     let seen = then_looked _ _ _ _ c.loop-x.self _ _ (tank c.loop-x.meter) _ c.loop-x.invariant c.raw_next.ensures.looked in
     let started = moved_looked _ _ c.raw_next.new.self (record { processor = c.start_define_invocation.new.self; carry = c.raw_next.new.self.carry; location = c.raw_next.new.self.location; parsing_if = c.raw_next.new.self.parsing_if }) (tank c.raw_next.new.meter) (tank c.start_define_invocation.new.meter) refl refl refl c.start_define_invocation.ensures in
     let looked = then_looked _ _ _ _ c.raw_next.new.self _ _ (tank c.raw_next.new.meter) _ seen started in
     record {
       looked = looked;
-      found = failed_found _ _ _ c.from_residual-in_err-passed.ensures.0;
+      found = failed_found _ _ _ c.from_residual-in_err-passed-in-Ok.ensures.0;
       carry = c.raw_next.ensures.carry;
-      settled = failed_settled _ c.from_residual-in_err-passed.ensures.0;
+      settled = failed_settled _ c.from_residual-in_err-passed-in-Ok.ensures.0;
     }
 
 pub returns-in-Ok : goal.returns-in-Ok
@@ -57,7 +57,7 @@ returns-in-Ok g c =
       looked = looked;
       found = omega (arith, found_is _ _ _ _ c.in-Some.is c.in_ok-x.ensures.found, c.loop-x.invariant.less, started.less);
       carry = c.raw_next.ensures.carry;
-      settled = passed_named _ c.in-Some.x _ c.in_ok-passed.ensures;
+      settled = passed_named _ c.in-Some.x _ c.in_ok-passed-in-Ok.ensures;
     }
 
 pub loop-x-preserved : goal.loop-x-preserved

@@ -1,7 +1,7 @@
 use Rattle.std.proofs.Common.{arith}
 use Rattle.stores.specs.Tank.{tank}
 use Rattle.conditions.proofs.Looking.{none_looked, then_looked, taken_looked, failed_took, later_took, less_took, found_is}
-use Rattle.conditions.proofs.if_parser.IfParser.+additive_atom_bit_and_bit_or_bit_xor_comparative_equality_logical_and_logical_or_multiplicative_shift_unary.Goals as goal
+use Rattle.conditions.proofs.if_parser.IfParser.+levels.Goals as goal
 
 -- atom
 pub atom-returns-in-Ident : goal.atom-returns-in-Ident
@@ -10,26 +10,26 @@ atom-returns-in-Ident g t c = record {
   took = later_took _ _ _ _ c.expect_next.ensures.looked.less c.handle_defined.ensures.took;
 }
 
-pub atom-returns-in_err-v : goal.atom-returns-in_err-v
-atom-returns-in_err-v g t c = record {
+pub atom-returns-in_err-v-in-Punct-LeftParen : goal.atom-returns-in_err-v-in-Punct-LeftParen
+atom-returns-in_err-v-in-Punct-LeftParen g t c = record {
   looked = then_looked _ _ _ _ c.expect_next.new.self _ _ (tank c.expect_next.new.meter) _ c.expect_next.ensures.looked c.logical_or.ensures.looked;
-  took = failed_took _ _ _ c.from_residual-in_err-v.ensures.0;
+  took = failed_took _ _ _ c.from_residual-in_err-v-in-Punct-LeftParen.ensures.0;
 }
 
-pub atom-returns-in_err-close : goal.atom-returns-in_err-close
-atom-returns-in_err-close g t c =
+pub atom-returns-in_err-close-in-Punct-LeftParen : goal.atom-returns-in_err-close-in-Punct-LeftParen
+atom-returns-in_err-close-in-Punct-LeftParen g t c =
     let inner = then_looked _ _ _ _ c.expect_next.new.self _ _ (tank c.expect_next.new.meter) _ c.expect_next.ensures.looked c.logical_or.ensures.looked in
     record {
       looked = then_looked _ _ _ _ c.logical_or.new.self _ _ (tank c.logical_or.new.meter) _ inner c.close.ensures.looked;
-      took = failed_took _ _ _ c.from_residual-in_err-close.ensures.0;
+      took = failed_took _ _ _ c.from_residual-in_err-close-in-Punct-LeftParen.ensures.0;
     }
 
-pub atom-returns-in_ok-close : goal.atom-returns-in_ok-close
-atom-returns-in_ok-close g t c =
+pub atom-returns-in_ok-close-in-Punct-LeftParen : goal.atom-returns-in_ok-close-in-Punct-LeftParen
+atom-returns-in_ok-close-in-Punct-LeftParen g t c =
     let inner = then_looked _ _ _ _ c.expect_next.new.self _ _ (tank c.expect_next.new.meter) _ c.expect_next.ensures.looked c.logical_or.ensures.looked in
     record {
       looked = then_looked _ _ _ _ c.logical_or.new.self _ _ (tank c.logical_or.new.meter) _ inner c.close.ensures.looked;
-      took = omega (arith, c.expect_next.ensures.looked.less, c.in_ok-v.ensures.took, c.close.ensures.looked.less);
+      took = omega (arith, c.expect_next.ensures.looked.less, c.in_ok-v-in-Punct-LeftParen.ensures.took, c.close.ensures.looked.less);
     }
 
 -- unary

@@ -1,7 +1,7 @@
 use Rattle.std.proofs.Common.{◌+◌, ◌-◌, ◌*◌}
 use Rattle.stores.specs.Tank.{tank}
 use Rattle.conditions.specs.Looks.{ahead, Looked}
-use Rattle.conditions.proofs.if_parser.IfParser.+additive_atom_bit_and_bit_or_bit_xor_comparative_equality_logical_and_logical_or_multiplicative_shift_unary.Given as goal
+use Rattle.conditions.proofs.if_parser.IfParser.+levels.Given as goal
 
 abbrev pub decreases-atom : goal.decreases-atom
 decreases-atom g l = (64 - l.depth) * 12
