@@ -6,16 +6,16 @@ pub returns-in-Ok : goal.returns-in-Ok
 returns-in-Ok g c =
     let t = tank c.args.meter.now in
     record {
-      defs = c.evaluate-if-expression.ensures.defs;
-      segments = c.evaluate-if-expression.ensures.segments;
-      stores = given_back t (tank c.evaluate-if-expression.new.meter) _ c.mark-mark.result c.mark-mark.ensures (grows_on t (tank c.gather-until-newline.new.meter) _ c.gather-until-newline.ensures c.evaluate-if-expression.ensures.stores) c.drop-guard-in-Ok.ensures;
+      defs = c.evaluate_if_expression.ensures.defs;
+      segments = c.evaluate_if_expression.ensures.segments;
+      stores = given_back t (tank c.evaluate_if_expression.new.meter) _ c.mark-mark.result c.mark-mark.ensures (grows_on t (tank c.gather_until_newline.new.meter) _ c.gather_until_newline.ensures c.evaluate_if_expression.ensures.stores) c.drop-guard-in-Ok.ensures;
     }
 
 pub returns : goal.returns
 returns g c =
     let t = tank c.args.meter.now in
     record {
-      defs = c.evaluate-if-expression.ensures.defs;
-      segments = c.evaluate-if-expression.ensures.segments;
-      stores = given_back t (tank c.evaluate-if-expression.new.meter) _ c.mark-mark.result c.mark-mark.ensures (grows_on t (tank c.gather-until-newline.new.meter) _ c.gather-until-newline.ensures c.evaluate-if-expression.ensures.stores) c.drop-guard-2.ensures;
+      defs = c.evaluate_if_expression.ensures.defs;
+      segments = c.evaluate_if_expression.ensures.segments;
+      stores = given_back t (tank c.evaluate_if_expression.new.meter) _ c.mark-mark.result c.mark-mark.ensures (grows_on t (tank c.gather_until_newline.new.meter) _ c.gather_until_newline.ensures c.evaluate_if_expression.ensures.stores) c.drop-guard-2.ensures;
     }

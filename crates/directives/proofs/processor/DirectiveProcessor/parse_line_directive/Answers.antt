@@ -6,16 +6,16 @@ pub returns-in-Ok : goal.returns-in-Ok
 returns-in-Ok g c =
     let t = tank c.args.meter.now in
     record {
-      defs = c.evaluate-line.ensures.defs;
-      segments = c.evaluate-line.ensures.segments;
-      stores = given_back t (tank c.evaluate-line.new.meter) _ c.mark-mark.result c.mark-mark.ensures (grows_on t (tank c.gather-until-newline.new.meter) _ c.gather-until-newline.ensures c.evaluate-line.ensures.stores) c.drop-guard-in-Ok.ensures;
+      defs = c.evaluate_line.ensures.defs;
+      segments = c.evaluate_line.ensures.segments;
+      stores = given_back t (tank c.evaluate_line.new.meter) _ c.mark-mark.result c.mark-mark.ensures (grows_on t (tank c.gather_until_newline.new.meter) _ c.gather_until_newline.ensures c.evaluate_line.ensures.stores) c.drop-guard-in-Ok.ensures;
     }
 
 pub returns : goal.returns
 returns g c =
     let t = tank c.args.meter.now in
     record {
-      defs = c.evaluate-line.ensures.defs;
-      segments = c.evaluate-line.ensures.segments;
-      stores = given_back t (tank c.evaluate-line.new.meter) _ c.mark-mark.result c.mark-mark.ensures (grows_on t (tank c.gather-until-newline.new.meter) _ c.gather-until-newline.ensures c.evaluate-line.ensures.stores) c.drop-guard-2.ensures;
+      defs = c.evaluate_line.ensures.defs;
+      segments = c.evaluate_line.ensures.segments;
+      stores = given_back t (tank c.evaluate_line.new.meter) _ c.mark-mark.result c.mark-mark.ensures (grows_on t (tank c.gather_until_newline.new.meter) _ c.gather_until_newline.ensures c.evaluate_line.ensures.stores) c.drop-guard-2.ensures;
     }
