@@ -37,6 +37,20 @@ module _ (d : Defs) (us : List DefineInvocation) (bs : List Pending) where
   pub steady : (f : Phase) → Apart us → Borne d us → Forced d us → Within us bs → Rising bs → CallsKnown d bs → CallsUnused us bs → CallsAllowed d bs → WaitsKnown d f → WaitsUnused us f → WaitsAllowed d us f → Sane d us bs × Waits d us f
   steady f a b c w r k u l wk wu wl = (sane a b c w r k u l, waits f wk wu wl)
 
+-- the facts, as a run's type has them
+pub record Facts (d : Defs) (us : List DefineInvocation) (bs : List Pending) (f : Phase) : Type 0 where
+  pub apart : Apart us
+  pub borne : Borne d us
+  pub forced : Forced d us
+  pub within : Within us bs
+  pub rising : Rising bs
+  pub calls : CallsKnown d bs
+  pub unused : CallsUnused us bs
+  pub allowed : CallsAllowed d bs
+  pub known : WaitsKnown d f
+  pub fresh : WaitsUnused us f
+  pub force : WaitsAllowed d us f
+
 module _ (d : Defs) (us : List DefineInvocation) (bs : List Pending) where
   some_is : (v w : Callee) → ◌≡◌ (Some v) (Some w) → v ≡ w
   some_is v w e = cc
@@ -47,44 +61,20 @@ module _ (d : Defs) (us : List DefineInvocation) (bs : List Pending) where
   free_of (Met v) h w e = subst (FreeOf d us) (some_is v w e) h
   free_of (Gather c) h w e = subst (FreeOf d us) (some_is c.callee w e) h
 
-  -- the facts, in the order in which a run's type has them
-  abbrev pub Facts : Phase → Type 0
-  Facts f = Apart us × (Borne d us × (Forced d us × (Within us bs × (Rising bs × (CallsKnown d bs × (CallsUnused us bs × (CallsAllowed d bs × (WaitsKnown d f × (WaitsUnused us f × (WaitsAllowed d us f × Unit {0}))))))))))
-
-  pub facts : (f : Phase) → Sane d us bs × Waits d us f → Facts f
+  pub facts : (f : Phase) → Sane d us bs × Waits d us f → Facts d us bs f
   facts f h =
       let s = h.0 in
-      let w = free_of f h.1 in (
-        (λ i j t. s.apart i j t.before t.inside t.same),
-        (
-          (λ i l. ((s.bears i l).known, (s.bears i l).named)),
-          (
-            s.force,
-            (
-              s.within,
-              (
-                s.rising,
-                (
-                  (λ i l. ((s.calls i l).bears.known, (s.calls i l).bears.named)),
-                  (
-                    (λ i l. (s.calls i l).free),
-                    (
-                      (λ i l. allows d (get_or bs i idle).end (get_or bs i idle).call.callee.name (s.calls i l).force),
-                      (
-                        (λ v e. ((w v e).bears.known, (w v e).bears.named)),
-                        (
-                          (λ v e. (w v e).free),
-                          (
-                            (λ v e. allows d (length us) v.name (w v e).force),
-                            tt,
-                          ),
-                        ),
-                      ),
-                    ),
-                  ),
-                ),
-              ),
-            ),
-          ),
-        ),
-      )
+      let w = free_of f h.1 in
+      record {
+        apart = λ i j t. s.apart i j t.before t.inside t.same;
+        borne = λ i l. ((s.bears i l).known, (s.bears i l).named);
+        forced = s.force;
+        within = s.within;
+        rising = s.rising;
+        calls = λ i l. ((s.calls i l).bears.known, (s.calls i l).bears.named);
+        unused = λ i l. (s.calls i l).free;
+        allowed = λ i l. allows d (get_or bs i idle).end (get_or bs i idle).call.callee.name (s.calls i l).force;
+        known = λ v e. ((w v e).bears.known, (w v e).bears.named);
+        fresh = λ v e. (w v e).free;
+        force = λ v e. allows d (length us) v.name (w v e).force;
+      }
