@@ -1,9 +1,9 @@
 -- A handle found for a name is one of the table, and bears that name.
-use Rattle.std.specs.Prelude.{◌≡◌, ℕ, zero, suc, ◌+◌, ◌-◌, ◌<◌, ◌≤◌, Bool, true, false, cond, List, [], ◌∷◌, ◌++◌, length, drop, Some, None, Option, ◌==◌, slice_index_or, refl}
-use Rattle.std.proofs.Common.{sym, ap, subst, ◌∙◌, ⊎_elim, arith, add-one, eqb-true}
+use Rattle.std.specs.Prelude.{◌≡◌, ℕ, suc, ◌+◌, ◌-◌, ◌<◌, ◌≤◌, Bool, true, false, cond, List, [], ◌∷◌, length, drop, Some, ◌==◌, slice_index_or, refl}
+use Rattle.std.proofs.Common.{ap, subst, ◌∙◌, arith, eqb-true}
 use Rattle.std.proofs.lemmas.Bool.{both_ways}
 use Rattle.std.proofs.lemmas.List.{at_drop_more}
-use Rattle.books.specs.Book.{Definition, Entry, Defs, none, mean, hit, seek, find}
+use Rattle.books.specs.Book.{Entry, Defs, none, mean, hit, seek, find}
 
 -- a hit is in force under the name
 pub hit_is : (e : Entry) (n : ℕ) → hit e n ≡ true → (e.live ≡ true) × (e.def.name ≡ n)

@@ -7,7 +7,7 @@
 -- Carried o r: a carried token is the answer; Spent r: only spent moves are raised; found_in r: what a look found; Holding r o: o is the answer
 -- Ended l r: only spent moves and the end of the line are raised; Tells d r: an answer says whether some name is in force in d
 -- Named r, Settled r: the only name in r is `defined`; OfLevel k r: the operator in r is of level k
-use Rattle.std.specs.Prelude.{◌≡◌, ℕ, ◌+◌, ◌-◌, ◌<◌, ◌≤◌, Bool, true, false, cond, ◌⊎◌, ℤ, is_some, Some, None, Ok, Err, Option, Result}
+use Rattle.std.specs.Prelude.{◌≡◌, ℕ, ◌+◌, ◌-◌, ◌<◌, ◌≤◌, Bool, true, false, ◌⊎◌, ℤ, is_some, Some, None, Ok, Err, Option, Result}
 use Rattle.tokens.specs.declared.location.Location.{Location}
 use Rattle.tokens.specs.declared.punct.Punct.{Punct}
 use Rattle.tokens.specs.declared.token.Token.{Token}

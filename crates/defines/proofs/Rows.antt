@@ -1,5 +1,5 @@
 -- Definitions that are entered in the table or taken out of force there.
-use Rattle.std.proofs.Common.{◌≡◌, ℕ, ◌+◌, ◌-◌, ◌<◌, ◌≤◌, Bool, true, false, cond, eqb, ◌⊎◌, List, [], ◌∷◌, ◌++◌, length, get_or, take, drop, set, None, sym, ap, ◌∙◌, subst, inl, inr, ⊎_elim, arith}
+use Rattle.std.proofs.Common.{◌≡◌, ℕ, ◌-◌, ◌<◌, ◌≤◌, Bool, true, false, cond, eqb, ◌⊎◌, List, [], ◌∷◌, ◌++◌, length, get_or, take, drop, set, None, sym, ap, ◌∙◌, subst, inl, inr, ⊎_elim, arith}
 use Rattle.std.proofs.lemmas.List.{map-append, map-set, length-set, length_push, get_or-set_same, get_or-set_other, get_or_push, get_or_append_left, get_or_past, take_rest}
 use Rattle.std.proofs.lemmas.Bool.{both_ways, eq-eqb, cases_eq}
 use Rattle.std.proofs.str.Laws.{order}

@@ -1,11 +1,11 @@
 -- A condition's processor begins anew, so it only adds to the stores.
-use Rattle.std.proofs.Common.{◌≡◌, ℕ, ◌<◌, ◌≤◌, List, length, take, sym, refl, ap, ◌∙◌, subst, arith}
+use Rattle.std.proofs.Common.{◌≡◌, List, length, ap, ◌∙◌, arith}
 use Rattle.std.proofs.lemmas.List.{take_all}
 use Rattle.stores.specs.declared.span.Span.{Span}
 use Rattle.stores.specs.Tank.{Tank, Grows}
 use Rattle.books.specs.Book.{Defs}
 use Rattle.expansion.specs.Processor.{Proc, fresh}
-use Rattle.expansion.specs.Sane.{Above, Went}
+use Rattle.expansion.specs.Sane.{Above}
 use Rattle.expansion.specs.Moved.{Moved}
 
 pub fresh_grows : (d e : Defs) (p q : Proc) (t u : Tank) (gs : List Span) → p ≡ fresh gs → Moved d p t e q u → Grows t u

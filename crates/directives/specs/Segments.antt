@@ -4,7 +4,7 @@
 -- else_on o bs, end_on o bs: the blocks and the skipping behind `#else` and `#endif`, where o is the innermost block
 -- decided o: the condition of an `#elif` is not worked out; elif_on t o bs: the blocks behind it, where t says whether text is skipped then
 -- if_on s t l bs: the blocks behind a line that opens one
-use Rattle.std.specs.Prelude.{ℕ, ◌-◌, Bool, true, false, cond, not, ◌||◌, List, [], ◌∷◌, ◌++◌, length, take, Some, None, Option}
+use Rattle.std.specs.Prelude.{◌-◌, Bool, true, false, cond, not, ◌||◌, List, length, take, Some, None, Option}
 use Rattle.tokens.specs.declared.location.Location.{Location}
 use Rattle.reading.specs.declared.blocks.DirectiveBlock.{DirectiveBlock}
 use Rattle.reading.specs.Blocks.{pushed, replaced}

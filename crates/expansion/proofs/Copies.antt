@@ -1,5 +1,5 @@
 -- One argument more is copied.
-use Rattle.std.proofs.Common.{◌≡◌, ℕ, suc, ◌+◌, List, sym, refl, ap, ◌∙◌, add-one}
+use Rattle.std.proofs.Common.{◌≡◌, ℕ, ◌+◌, List, sym, ap, ◌∙◌, add-one}
 use Rattle.stores.specs.declared.span.Span.{Span}
 use Rattle.expansion.specs.Processor.{Proc, argued}
 use Rattle.expansion.specs.Arguments.{arg_at, with_arg, copied}

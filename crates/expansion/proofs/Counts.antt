@@ -1,9 +1,9 @@
 -- The names in expansion number at most the definitions in force plus one.
-use Rattle.std.proofs.Common.{◌≡◌, ℕ, zero, suc, ◌+◌, ◌-◌, ◌<◌, ◌≤◌, Bool, true, false, cond, eqb, ltb, List, [], ◌∷◌, ◌++◌, length, get_or, sym, refl, ap, ◌∙◌, subst, arith, eq-eqb, ne_eqb, eqb-true}
+use Rattle.std.proofs.Common.{◌≡◌, ℕ, suc, ◌+◌, ◌<◌, ◌≤◌, Bool, true, false, cond, eqb, List, [], ◌∷◌, length, get_or, sym, refl, ap, ◌∙◌, subst, arith, eq-eqb, ne_eqb, eqb-true}
 use borrow.Author.Tests.{both_ways}
 use Rattle.expansion.specs.declared.invocation.DefineInvocation.{DefineInvocation}
 use Rattle.expansion.specs.declared.invocation.Pending.{Pending}
-use Rattle.books.specs.Book.{Entry, Defs, hit, has, InForce, live}
+use Rattle.books.specs.Book.{Entry, Defs, hit, has, live}
 use Rattle.expansion.specs.Processor.{blank}
 use Rattle.expansion.specs.Sane.{Sane, Lawful}
 

@@ -1,5 +1,5 @@
 -- A processor only adds to the stores: what it found there is a front of what it leaves.
-use Rattle.std.proofs.Common.{◌≡◌, ℕ, zero, suc, ◌+◌, ◌-◌, ◌<◌, ◌≤◌, Bool, true, false, cond, eqb, ltb, List, [], ◌∷◌, ◌++◌, length, get_or, take, drop, Some, None, Ok, Err, Option, sym, refl, ap, ◌∙◌, subst, ⊎_elim, arith}
+use Rattle.std.proofs.Common.{◌≡◌, ℕ, ◌+◌, ◌-◌, ◌<◌, ◌≤◌, cond, eqb, ltb, [], ◌∷◌, ◌++◌, length, get_or, take, drop, Some, None, Ok, Err, Option, sym, refl, ap, ◌∙◌, subst, ⊎_elim, arith}
 use borrow.Author.Tests.{eqb-false}
 use Rattle.std.proofs.lemmas.List.{length-take, length_push, get_or_push, get_or_append_left, get_or-take, take_all, take-take, take_at, take-append-le}
 use Rattle.std.proofs.str.Laws.{order}
@@ -13,13 +13,12 @@ use Rattle.expansion.specs.declared.delimiter.Delimiter.{Delimiter}
 use Rattle.expansion.specs.declared.delimiter.Delimiter.TheVariants.{Open, Close, Comma, Other}
 use Rattle.expansion.specs.declared.invocation.Callee.{Callee}
 use Rattle.expansion.specs.declared.invocation.Call.{Call}
-use Rattle.expansion.specs.declared.invocation.Pending.{Pending}
 use Rattle.expansion.specs.declared.invocation.Phase.{Phase}
 use Rattle.expansion.specs.declared.invocation.Phase.TheVariants.{Plain, Held, Met, Gather}
 use Rattle.expansion.specs.Delimiters.{delimits}
-use Rattle.expansion.specs.Processor.{Proc, Answer, phased, lined, argued, idle, lowest, expanding, named}
-use Rattle.expansion.specs.Phases.{Out, passed, barred, starting, found, entered, begun, reached, split, parted, waiting, descended, bare, counted, closed, storing, gathered, resumed, filled, returned, finished, by_name, holding, after_name, spent, meeting}
-use Rattle.expansion.specs.Sane.{Above, Fronts, Kept, Went}
+use Rattle.expansion.specs.Processor.{Proc, Answer, phased, lined, idle, lowest, expanding, named}
+use Rattle.expansion.specs.Phases.{Out, passed, barred, found, entered, begun, reached, split, parted, waiting, descended, bare, counted, closed, storing, gathered, resumed, filled, returned, finished, by_name, holding, after_name, spent, meeting}
+use Rattle.expansion.specs.Sane.{Above, Fronts, Went}
 use Rattle.expansion.proofs.Stacks.{by_test}
 
 pub same : (b : ℕ) (t : Tank) → Fronts b t t

@@ -1,26 +1,23 @@
 -- What a phase makes of a step keeps the invariant.
-use Rattle.std.proofs.Common.{◌≡◌, ℕ, zero, suc, ◌+◌, ◌-◌, ◌<◌, ◌≤◌, Bool, true, false, cond, eqb, ltb, ◌⊎◌, List, [], ◌∷◌, ◌++◌, length, get_or, take, Some, None, Ok, Err, Option, sym, refl, ap, ◌∙◌, subst, inl, inr, ⊎_elim, arith}
+use Rattle.std.proofs.Common.{◌≡◌, ℕ, ◌+◌, ◌-◌, ◌<◌, false, cond, eqb, ltb, length, take, Some, None, Ok, Err, Option, refl, inl, arith}
 use borrow.Author.Tests.{eqb-false}
 use Rattle.tokens.specs.declared.token.Token.{Token}
 use Rattle.tokens.specs.declared.location.Location.{Location}
 use Rattle.tokens.specs.declared.fault.StepExit.TheVariants.{Error, Continue, Finished}
-use Rattle.stores.specs.declared.span.Span.{Span}
 use Rattle.stores.specs.Tank.{Tank, roomy, whole, shifted}
 use Rattle.stores.specs.Idents.{ident_of}
 use Rattle.books.specs.Book.{Defs, mean, find}
 use Rattle.books.specs.Books.{found as finds}
 use Rattle.expansion.specs.declared.delimiter.Delimiter.{Delimiter}
 use Rattle.expansion.specs.declared.delimiter.Delimiter.TheVariants.{Open, Close, Comma, Other}
-use Rattle.expansion.specs.declared.invocation.DefineInvocation.{DefineInvocation}
 use Rattle.expansion.specs.declared.invocation.Callee.{Callee}
 use Rattle.expansion.specs.declared.invocation.Call.{Call}
-use Rattle.expansion.specs.declared.invocation.Pending.{Pending}
 use Rattle.expansion.specs.declared.invocation.Phase.{Phase}
 use Rattle.expansion.specs.declared.invocation.Phase.TheVariants.{Plain, Held, Met, Gather}
 use Rattle.expansion.specs.Delimiters.{delimits}
-use Rattle.expansion.specs.Processor.{Proc, Answer, phased, lined, fault, lowest, expanding, named}
-use Rattle.expansion.specs.Phases.{Out, quiet, entered, passed, barred, starting, found, begun, reached, split, parted, waiting, descended, bare, counted, closed, storing, gathered, resumed, filled, returned, finished, by_name, holding, after_name, spent, failed, meeting}
-use Rattle.expansion.specs.Sane.{Bears, Free, FreeOf, Sane, Waits, Holds}
+use Rattle.expansion.specs.Processor.{Proc, Answer, phased, lined, lowest, expanding, named}
+use Rattle.expansion.specs.Phases.{Out, entered, passed, barred, found, begun, reached, split, parted, waiting, descended, bare, counted, closed, storing, gathered, resumed, filled, returned, finished, by_name, holding, after_name, spent, meeting}
+use Rattle.expansion.specs.Sane.{Free, FreeOf, Sane, Waits, Holds}
 use Rattle.expansion.proofs.Stacks.{unbarred, by_test, found_has, entered_sane, waiting_sane, resumed_sane, resumed_free}
 
 module _ (d : Defs) where

@@ -1,5 +1,5 @@
 -- A move keeps the invariant, changes no handle and takes back nothing.
-use Rattle.std.proofs.Common.{◌≡◌, ℕ, zero, suc, ◌+◌, ◌-◌, ◌<◌, ◌≤◌, Bool, true, false, cond, eqb, ltb, List, [], ◌∷◌, ◌++◌, map, length, get_or, take, Some, None, Ok, Err, Option, sym, refl, ap, ◌∙◌, subst, ⊎_elim, arith, ltb-false, ltb-true, eqb-true}
+use Rattle.std.proofs.Common.{◌≡◌, ℕ, suc, ◌+◌, ◌-◌, ◌<◌, ◌≤◌, Bool, true, false, cond, eqb, List, [], map, length, get_or, take, Some, None, Ok, Err, Option, sym, refl, ap, ◌∙◌, subst, ⊎_elim, arith, ltb-false, ltb-true, eqb-true}
 use Rattle.std.proofs.lemmas.List.{length-set, length-take, take_all}
 use Rattle.std.proofs.lemmas.Bool.{cases_eq}
 use Rattle.std.specs.List.{slice_get}
@@ -14,11 +14,10 @@ use Rattle.stores.specs.Tank.{Tank, Spends, spending, read}
 use Rattle.books.specs.Book.{Defs, mean, Grown}
 use Rattle.expansion.specs.declared.invocation.DefineInvocation.{DefineInvocation}
 use Rattle.expansion.specs.declared.invocation.Pending.{Pending}
-use Rattle.expansion.specs.declared.invocation.Phase.{Phase}
-use Rattle.expansion.specs.declared.invocation.Phase.TheVariants.{Plain, Held, Met, Gather}
-use Rattle.expansion.specs.Processor.{Proc, Answer, fresh, fault, phased, used, idle, top, lowest, base, expanding}
-use Rattle.expansion.specs.Phases.{Out, Made, Read, topped, in_arg, at_param, by_word, in_body, in_use, in_input, begun, meeting}
-use Rattle.expansion.specs.Sane.{Sane, Waits, Holds, Above, Fronts, Kept, Went}
+use Rattle.expansion.specs.declared.invocation.Phase.TheVariants.{Plain}
+use Rattle.expansion.specs.Processor.{Proc, Answer, fresh, fault, phased, idle, top, lowest, base, expanding}
+use Rattle.expansion.specs.Phases.{Made, Read, topped, in_arg, at_param, by_word, in_body, in_use, in_input, begun, meeting}
+use Rattle.expansion.specs.Sane.{Sane, Holds}
 use Rattle.expansion.specs.Moved.{Moved, PaysFor, Pays}
 use Rattle.expansion.proofs.Stacks.{by_test, Covers, covers_top, covers_take, covered, covered_waits, clear, clear_waits}
 use Rattle.expansion.proofs.Meets.{begun_holds, meeting_holds}

@@ -1,5 +1,5 @@
 -- There is a place for each macro that goes on the stack.
-use Rattle.std.proofs.Common.{◌≡◌, ℕ, suc, ◌+◌, ◌-◌, ◌<◌, ◌≤◌, false, List, [], ◌∷◌, ◌++◌, length, take, replicate, Some, None, refl, inl, arith}
+use Rattle.std.proofs.Common.{◌≡◌, ℕ, ◌-◌, ◌<◌, false, List, [], ◌∷◌, ◌++◌, length, take, Some, None, inl, arith}
 use Rattle.std.proofs.lemmas.List.{length_push, length-take}
 use Rattle.expansion.specs.declared.invocation.DefineInvocation.{DefineInvocation}
 use Rattle.expansion.specs.declared.invocation.Pending.{Pending}

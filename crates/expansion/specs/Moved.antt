@@ -1,7 +1,7 @@
 -- Moved d p t e q u: from the book d, the processor p and the meter t to e, q and u: the invariant of the macros in
 --   expansion is kept, no handle has changed, no move is taken back, and what was stored before stays in front
 -- Pays a t u: where the turn's answer a is no fault, a move was made; PaysFor a t u: the same of a step's answer
-use Rattle.std.specs.Prelude.{ℕ, ◌<◌, Some, None, Ok, Err, Option}
+use Rattle.std.specs.Prelude.{◌<◌, Some, None, Ok, Err, Option}
 use Rattle.tokens.specs.declared.fault.StepExit.TheVariants.{Error, Continue, Finished}
 use Rattle.stores.specs.Tank.{Tank}
 use Rattle.books.specs.Book.{Defs, Grown}

@@ -2,20 +2,19 @@
 -- in_arg, at_param, by_word, in_body, inUse: the top macro is read on; inInput: the argument that a level expands
 -- entered, passed, begun, descended, counted, closed, storing, gathered, finished, holding: what each case does
 -- meeting f a d p t: the phase f meets the step a: no answer yet, or the answer of the step, with what is left of the processor and the meter
-use Rattle.std.specs.Prelude.{◌≡◌, ℕ, ◌+◌, ◌-◌, ◌<◌, ◌≤◌, Bool, true, false, cond, not, List, [], ◌∷◌, ◌++◌, map, length, take, replicate, is_some, Some, None, Ok, Err, Option, Result, ◌==◌, nat_lt, slice_set}
+use Rattle.std.specs.Prelude.{◌≡◌, ℕ, ◌+◌, ◌-◌, Bool, true, false, cond, List, [], ◌∷◌, ◌++◌, map, length, take, Some, None, Ok, Err, Option, ◌==◌, nat_lt, slice_set}
 use Rattle.std.specs.List.{slice_get}
 use Rattle.tokens.specs.declared.location.Location.{Location}
 use Rattle.tokens.specs.declared.token.Token.{Token}
 use Rattle.tokens.specs.declared.fault.Fault.{Fault}
 use Rattle.tokens.specs.declared.fault.PreprocessorError.{PreprocessorError}
-use Rattle.tokens.specs.declared.fault.PreprocessorError.TheVariants.{IntegerOverflow, UnexpectedEndOfInput, TooFewDefineArguments, TooManyDefineArguments, WorkingTokensFull, TooManyLevels, MovesSpent}
-use Rattle.tokens.specs.declared.fault.StepExit.{StepExit}
+use Rattle.tokens.specs.declared.fault.PreprocessorError.TheVariants.{IntegerOverflow, UnexpectedEndOfInput, TooFewDefineArguments, TooManyDefineArguments, WorkingTokensFull, TooManyLevels}
 use Rattle.tokens.specs.declared.fault.StepExit.TheVariants.{Error, Continue, Finished}
 use Rattle.tokens.specs.Faults.{number}
 use Rattle.stores.specs.declared.span.Span.{Span}
-use Rattle.stores.specs.Spans.{nowhere, onward}
+use Rattle.stores.specs.Spans.{onward}
 use Rattle.stores.specs.Places.{place}
-use Rattle.stores.specs.Idents.{name_in, ident_of}
+use Rattle.stores.specs.Idents.{ident_of}
 use Rattle.stores.specs.Tank.{Tank, roomy, stored, built, shifted, whole, read}
 use Rattle.books.specs.Book.{Defs, mean, find}
 use Rattle.expansion.specs.declared.delimiter.Delimiter.{Delimiter}
@@ -28,7 +27,7 @@ use Rattle.expansion.specs.declared.invocation.Phase.TheVariants.{Plain, Held, M
 use Rattle.expansion.specs.declared.invocation.Pending.{Pending}
 use Rattle.expansion.specs.Delimiters.{delimits}
 use Rattle.expansion.specs.Arguments.{arg_at, with_arg, copied, slot_of_call}
-use Rattle.expansion.specs.Processor.{Proc, phased, used, fed, lined, argued, Answer, fault, blank, idle, top, lowest, base, expanding, named}
+use Rattle.expansion.specs.Processor.{Proc, phased, used, fed, lined, argued, Answer, fault, top, lowest, expanding, named}
 
 -- ----- a move: what is met -----
 

@@ -2,7 +2,7 @@
 -- phased, used, fed, lined, argued: the same with another phase, stack, input, line, store of arguments
 -- blank, idle: no macro, no waiting level; top us, lowest bs: the last of each
 -- base bs: where the current level's own macros begin; fault e l: the answer with a fault of expansion
-use Rattle.std.specs.Prelude.{ℕ, ◌-◌, Bool, cond, List, [], ◌∷◌, length, Some, None, Ok, Err, vec_items, Option, Result, ◌==◌, nat_lt, slice_index_or}
+use Rattle.std.specs.Prelude.{ℕ, ◌-◌, Bool, cond, List, [], length, None, Err, vec_items, Result, ◌==◌, nat_lt, slice_index_or}
 use Rattle.tokens.specs.declared.location.Location.{Location}
 use Rattle.tokens.specs.declared.token.Token.{Token}
 use Rattle.tokens.specs.declared.token.TokenValue.TheVariants.{Ident}

@@ -5,9 +5,9 @@
 -- Holds d p: that, and the call that the phase is about may be entered too
 -- Above b p t: every deeper level builds above the first b built tokens
 -- Went p t q u: from p and t to q and u no move is taken back, and what was stored before stays in front
-use Rattle.std.specs.Prelude.{◌≡◌, ℕ, suc, ◌<◌, ◌≤◌, ◌⊎◌, List, [], ◌∷◌, length, take, ◌≢◌, slice_index_or}
+use Rattle.std.specs.Prelude.{◌≡◌, ℕ, suc, ◌<◌, ◌≤◌, ◌⊎◌, List, length, take, ◌≢◌, slice_index_or}
 use Rattle.stores.specs.Tank.{Tank}
-use Rattle.books.specs.Book.{Defs, Sound, mean, InForce, live}
+use Rattle.books.specs.Book.{Defs, mean, InForce, live}
 use Rattle.expansion.specs.declared.invocation.DefineInvocation.{DefineInvocation}
 use Rattle.expansion.specs.declared.invocation.Callee.{Callee}
 use Rattle.expansion.specs.declared.invocation.Pending.{Pending}

@@ -1,14 +1,14 @@
 -- The facts that a run's type carries are the invariant of its macros in expansion.
-use Rattle.std.proofs.Common.{◌≡◌, ℕ, zero, suc, ◌<◌, ◌≤◌, true, ◌⊎◌, List, [], ◌∷◌, length, get_or, Some, None, sym, refl, ap, ◌∙◌, subst, inl, inr, ⊎_elim, arith}
-use Rattle.books.specs.Book.{Defs, mean, has, InForce}
+use Rattle.std.proofs.Common.{◌≡◌, ℕ, zero, suc, ◌<◌, true, ◌⊎◌, List, length, get_or, Some, refl, subst, inl, inr, ⊎_elim, arith}
+use Rattle.books.specs.Book.{Defs, has, InForce}
 use Rattle.expansion.specs.declared.invocation.DefineInvocation.{DefineInvocation}
 use Rattle.expansion.specs.declared.invocation.Callee.{Callee}
 use Rattle.expansion.specs.declared.invocation.Pending.{Pending}
 use Rattle.expansion.specs.declared.invocation.Phase.{Phase}
 use Rattle.expansion.specs.declared.invocation.Phase.TheVariants.{Plain, Held, Met, Gather}
-use Rattle.expansion.specs.Processor.{Proc, blank, idle}
-use Rattle.expansion.specs.Sane.{Bears, Free, FreeOf, Sane, Waits, Holds}
-use Rattle.preprocessor.specs.Steady.{Twice, Apart, Borne, Forced, Within, Rising, Known, Unused, Allowed, CallsKnown, CallsUnused, CallsAllowed, waiting, WaitsKnown, WaitsUnused, WaitsAllowed}
+use Rattle.expansion.specs.Processor.{idle}
+use Rattle.expansion.specs.Sane.{Free, FreeOf, Sane, Waits}
+use Rattle.preprocessor.specs.Steady.{Apart, Borne, Forced, Within, Rising, Known, Unused, Allowed, CallsKnown, CallsUnused, CallsAllowed, waiting, WaitsKnown, WaitsUnused, WaitsAllowed}
 
 enters : (d : Defs) (us : List DefineInvocation) (e : ℕ) (w : Callee) → Known d w → Unused us e w → Allowed d e w → Free d us e w.handle w.name
 enters d us zero w k u a = record { bears = record { known = k.0; named = k.1 }; free = u; force = inr refl }

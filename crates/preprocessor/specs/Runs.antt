@@ -2,7 +2,7 @@
 -- book_of r: its definitions; in_expansion r: its macros in expansion
 -- Repeats o a: where the run's fault is o, the answer a is that fault; Still o r s: and the run stays as it is
 -- Refused r s: s is the run r as it was, up to memory that was taken and given back
-use Rattle.std.specs.Prelude.{◌≡◌, List, Some, None, Ok, Err, vec_items, Option, Result}
+use Rattle.std.specs.Prelude.{◌≡◌, List, Some, None, Err, vec_items, Option, Result}
 use Rattle.tokens.specs.declared.fault.Fault.{Fault}
 use Rattle.stores.specs.Tank.{Tank, tank}
 use Rattle.books.specs.Book.{Defs}

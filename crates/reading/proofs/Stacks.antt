@@ -1,5 +1,5 @@
 -- Lists of blocks.
-use Rattle.std.proofs.Common.{◌≡◌, ℕ, ◌-◌, ◌<◌, ◌≤◌, Bool, true, false, cond, ltb, List, [], ◌∷◌, ◌++◌, length, set, sym, refl, ap, ◌∙◌, arith, ltb-true}
+use Rattle.std.proofs.Common.{◌≡◌, ◌≤◌, Bool, true, false, cond, ltb, List, [], ◌∷◌, ◌++◌, length, sym, refl, ap, arith, ltb-true}
 use Rattle.std.proofs.lemmas.List.{length_push}
 use Rattle.reading.specs.declared.blocks.DirectiveBlock.{DirectiveBlock}
 use Rattle.reading.specs.Blocks.{replaced}

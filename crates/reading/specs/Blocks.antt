@@ -1,5 +1,5 @@
 -- pushed bs b: one more block, unless 64 are open; replaced bs b: another top
-use Rattle.std.specs.Prelude.{ℕ, ◌-◌, cond, List, [], ◌∷◌, ◌++◌, length, nat_lt, slice_set}
+use Rattle.std.specs.Prelude.{◌-◌, cond, List, [], ◌∷◌, ◌++◌, length, nat_lt, slice_set}
 use Rattle.reading.specs.declared.blocks.DirectiveBlock.{DirectiveBlock}
 
 abbrev pub pushed : List DirectiveBlock → DirectiveBlock → List DirectiveBlock

@@ -2,8 +2,6 @@
 -- converted x: the token that a lexed token stands for, a hash or a line end
 use Rattle.std.specs.Prelude.{None}
 use Rattle.tokens.specs.declared.location.Location.{Location}
-use Rattle.tokens.specs.declared.token.Token.{Token}
-use Rattle.tokens.specs.declared.token.TokenValue.{TokenValue}
 use Rattle.tokens.specs.declared.token.TokenValue.TheVariants as value
 use Rattle.tokens.specs.declared.lexer.LexerToken.{LexerToken}
 use Rattle.tokens.specs.declared.lexer.LexerTokenValue.{LexerTokenValue}

@@ -4,7 +4,7 @@ use Rattle.tokens.specs.declared.lexer.LexerToken.{LexerToken}
 use Rattle.tokens.specs.declared.lexer.Closing.{Closing}
 use Rattle.tokens.specs.declared.lexer.Closing.TheVariants.{End, Fault}
 use Rattle.sources.specs.Source.{Tokens, is_newline, first, rest_of, mark_of, fresh_of, read, after}
-use Rattle.sources.specs.Mending.{line_end, missing, supplied}
+use Rattle.sources.specs.Mending.{line_end, missing}
 
 -- where no token is left, nothing changes
 pub empty_read : (k : Tokens) → k.rest ≡ [] → Err k.closing ≡ read k

@@ -1,5 +1,5 @@
 -- What is stored before stays in front, and is all that a cut back to the mark leaves.
-use Rattle.std.proofs.Common.{◌≡◌, ℕ, ◌+◌, ◌<◌, ◌≤◌, Bool, true, false, cond, List, [], ◌∷◌, ◌++◌, length, take, sym, refl, ap, ◌∙◌, subst, arith}
+use Rattle.std.proofs.Common.{◌≡◌, ◌≤◌, Bool, true, false, cond, List, [], ◌∷◌, length, take, sym, refl, ap, ◌∙◌, subst, arith}
 use Rattle.std.proofs.lemmas.List.{take_all, take-take, take_at, length-take}
 use Rattle.tokens.specs.declared.token.Token.{Token}
 use Rattle.stores.specs.declared.guard.Mark.{Mark}

@@ -1,5 +1,5 @@
 -- What becomes of the stores where an argument is whole.
-use Rattle.std.proofs.Common.{◌≡◌, ℕ, ◌+◌, ◌-◌, ◌<◌, ◌≤◌, Bool, true, cond, List, [], ◌∷◌, ◌++◌, length, take, drop, sym, refl, ap, ◌∙◌, append-nil, arith, length-drop}
+use Rattle.std.proofs.Common.{◌≡◌, ℕ, ◌+◌, ◌-◌, ◌≤◌, Bool, true, cond, List, ◌++◌, length, take, drop, sym, ap, ◌∙◌, append-nil, arith, length-drop}
 use Rattle.std.proofs.lemmas.List.{drop_all, take_all}
 use Rattle.tokens.specs.declared.token.Token.{Token}
 use Rattle.stores.specs.declared.span.Span.{Span}

@@ -1,5 +1,5 @@
 -- nowhere: the empty part; onward s: what is left of a part once its first token is read
-use Rattle.std.specs.Prelude.{ℕ, ◌+◌, cond, nat_lt}
+use Rattle.std.specs.Prelude.{◌+◌, cond, nat_lt}
 use Rattle.stores.specs.declared.span.Span.{Span}
 
 abbrev pub nowhere : Span

@@ -1,5 +1,5 @@
 -- No NaN equals anything.
-use Rattle.std.proofs.Common.{◌≡◌, ℕ, Bool, true, false, sym, refl, ap, ◌∙◌, arith}
+use Rattle.std.proofs.Common.{◌≡◌, ℕ, true, false, sym, refl, ◌∙◌, arith}
 use lib.Ieee.{Float, nan, inf, fin, eq, is_nan, nan_bits, of_bits, binary32}
 use lib.Ieee.Bits.{nan_bits_is}
 use Rattle.tokens.specs.Floats.{value_equal}

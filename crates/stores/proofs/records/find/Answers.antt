@@ -1,4 +1,4 @@
-use Rattle.std.proofs.Common.{◌≡◌, true, false, sym, ap, ◌∙◌}
+use Rattle.std.proofs.Common.{sym, ap, ◌∙◌}
 use Rattle.stores.specs.Places.{bears}
 use Rattle.stores.proofs.Laws.{found_at, passed_at, none_left}
 use Rattle.stores.proofs.records.find.Goals as goal

@@ -1,6 +1,5 @@
-use Rattle.std.proofs.Common.{◌<◌, sym, refl, ◌∙◌, arith, rules}
+use Rattle.std.proofs.Common.{refl, arith, rules}
 use Rattle.stores.specs.Tank.{tank}
-use Rattle.conditions.specs.Looks.{ahead}
 use Rattle.conditions.proofs.Looking.{none_looked, then_looked, moved_looked, found_is, failed_found, failed_settled, nameless, defined_named, passed_named}
 use Rattle.conditions.proofs.if_parser.IfParser.next.Goals as goal
 

@@ -1,7 +1,6 @@
-use Rattle.std.proofs.Common.{◌≡◌, sym, refl, ◌∙◌, subst}
+use Rattle.std.proofs.Common.{refl, ◌∙◌, subst}
 use Rattle.books.specs.Book.{Grown, Kept}
-use Rattle.defines.specs.declared.table.Defines.{Defines}
-use Rattle.defines.specs.Held.{held, ReadOn}
+use Rattle.defines.specs.Held.{held}
 use Rattle.reading.proofs.ReadingOn.{read_begun, read_then}
 use Rattle.directives.proofs.Refusing.{grown_is, kept_is, as_before, not_taken, not_accepted}
 use Rattle.directives.proofs.processor.DirectiveProcessor.add_define.Goals as goal

@@ -1,4 +1,4 @@
-use Rattle.std.proofs.Common.{◌≡◌, sym, refl, ◌∙◌, subst}
+use Rattle.std.proofs.Common.{refl, ◌∙◌, subst}
 use Rattle.books.specs.Book.{Grown}
 use Rattle.defines.specs.Held.{held}
 use Rattle.directives.proofs.processor.DirectiveProcessor.parse_define_directive.Goals as goal

@@ -1,4 +1,4 @@
-use Rattle.std.proofs.Common.{map, is_some, Some, sym, ap, ◌∙◌}
+use Rattle.std.proofs.Common.{map, is_some, Some, ap, ◌∙◌}
 use Rattle.stores.specs.Places.{place}
 use Rattle.expansion.proofs.Bars.{bars_is}
 use Rattle.expansion.proofs.processor.MacroProcessor.bars.Goals as goal

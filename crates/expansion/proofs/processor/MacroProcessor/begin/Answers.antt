@@ -1,4 +1,4 @@
-use Rattle.std.proofs.Common.{◌≡◌, length, vec_items, sym, ap, ◌∙◌, arith}
+use Rattle.std.proofs.Common.{length, vec_items, sym, ap, ◌∙◌, arith}
 use Rattle.expansion.specs.Processor.{view}
 use Rattle.expansion.proofs.Lines.{starting_uses}
 use Rattle.expansion.proofs.Places.{room_begun}

@@ -1,4 +1,4 @@
-use Rattle.std.proofs.Common.{◌≡◌, vec_items, ap, ◌∙◌, arith}
+use Rattle.std.proofs.Common.{vec_items, ap, ◌∙◌, arith}
 use Rattle.expansion.specs.Processor.{blank}
 use Rattle.expansion.proofs.Items.{last_read}
 use Rattle.expansion.proofs.processor.MacroProcessor.read_word.Goals as goal

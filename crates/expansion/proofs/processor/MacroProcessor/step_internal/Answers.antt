@@ -1,4 +1,4 @@
-use Rattle.std.proofs.Common.{◌≡◌, length, vec_items, sym, ◌∙◌, arith}
+use Rattle.std.proofs.Common.{◌≡◌, length, vec_items, arith}
 use Rattle.stores.specs.Tank.{tank, read}
 use Rattle.expansion.specs.Processor.{view}
 use Rattle.expansion.proofs.Motions.{read_moved, fed_moved, input_moved}

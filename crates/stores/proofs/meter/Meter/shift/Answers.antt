@@ -1,5 +1,4 @@
-use Rattle.std.proofs.Common.{◌≡◌, ℕ, ◌+◌, ◌-◌, ◌<◌, ◌≤◌, cond, ◌++◌, length, vec_items, sym, refl, ap, ◌∙◌, arith, rules}
-use Rattle.stores.specs.declared.span.Span.{Span}
+use Rattle.std.proofs.Common.{◌≡◌, ◌+◌, ◌-◌, ◌++◌, vec_items, ap, ◌∙◌, arith}
 use Rattle.stores.specs.Tank.{tank}
 use Rattle.stores.proofs.Shifts.{none_shifted, spanned, made_shifted, moved, fits, picked}
 use Rattle.stores.proofs.meter.Meter.shift.Goals as goal

@@ -2,7 +2,7 @@
 use Rattle.std.proofs.Common.{◌≡◌, ◌+◌, [], ◌∷◌, drop, Some, sym, ap, ◌∙◌}
 use Rattle.std.proofs.lemmas.List.{drop_more, drop_all}
 use Rattle.sources.specs.Source.{is_newline}
-use Rattle.sources.specs.Mending.{missing, supplied, mended}
+use Rattle.sources.specs.Mending.{supplied, mended}
 use Rattle.sources.specs.Recorded.{meant}
 use Rattle.sources.proofs.Reading.{empty_read, empty_after, first_read, first_after, supplied_once}
 use Rattle.sources.proofs.records.reads.RecordsSource.next.Goals as goal
