@@ -9,7 +9,7 @@ PPRS_FOLDER  the sources of pp-rs 0.2.1: token.rs, pp.rs and pp/if_parser.rs
 --tests      the cases of tests/ in the place of random ones
 --container  the cases of a container in the place of random ones
 --seconds    the time that pp-rs has for a case
---trace, --replay   the port's program, target/bin/trace or, if that is not there, target/bin/replay
+--trace, --replay   the port's program, crates/trace/out/trace or, if that is not there, crates/replay/out/replay
 
 The status is 1 if a case differs.
 """
@@ -349,12 +349,12 @@ def fixed_cases(options):
 
 
 def port_of(options):
-    trace = options.trace or ROOT / "target" / "bin" / "trace"
-    replay = options.replay or ROOT / "target" / "bin" / "replay"
+    trace = options.trace or ROOT / "crates" / "trace" / "out" / "trace"
+    replay = options.replay or ROOT / "crates" / "replay" / "out" / "replay"
     if options.trace or trace.is_file() and not options.replay:
         return Trace(trace)
     if not replay.is_file():
-        raise BuildError("neither target/bin/trace nor target/bin/replay is there: build the port first")
+        raise BuildError("neither crates/trace/out/trace nor crates/replay/out/replay is there: build one by `rt run` in its folder")
     return Replay(replay)
 
 
