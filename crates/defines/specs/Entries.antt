@@ -1,5 +1,5 @@
 -- Definitions as entries of a book, by place.
--- entry_at: the entry at a place; entries-len: how many there are; sound: what the table keeps makes a sound book
+-- entry_at: the entry at a place; entries_len: how many there are; sound: what the table keeps makes a sound book
 use Rattle.std.specs.Prelude.{◌≡◌, ℕ, zero, suc, ◌≤◌, List, [], ◌∷◌, length, get_or, drop, slice_index_or, refl}
 use Rattle.std.proofs.Common.{sym, ap, ◌∙◌, arith}
 use Rattle.std.proofs.lemmas.List.{length-map, length-take, length-drop}

@@ -1,5 +1,5 @@
 -- A move of the processor, and what its phase makes of the step that it meets.
--- in_arg, at_param, by_word, in_body, inUse: the top macro is read on; inInput: the argument that a level expands
+-- in_arg, at_param, by_word, in_body, in_use: the top macro is read on; in_input: the argument that a level expands
 -- entered, passed, begun, descended, counted, closed, storing, gathered, finished, holding: what each case does
 -- meeting f a d p t: the phase f meets the step a: no answer yet, or the answer of the step, with what is left of the processor and the meter
 use Rattle.std.specs.Prelude.{◌≡◌, ℕ, ◌+◌, ◌-◌, Bool, true, false, cond, List, [], ◌∷◌, ◌++◌, map, length, take, Some, None, Ok, Err, Option, ◌==◌, nat_lt, slice_set}

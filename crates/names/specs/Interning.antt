@@ -2,7 +2,7 @@
 -- seek i ns b: the first place that holds b, where the list begins at place i
 -- fits b: a name has 1 to 1,024 bytes; room ns b: with b there are at most 1,024 names and 16,384 bytes
 -- answer ns b: the number of the name, or why it is refused; after ns b: the names after that, where a refusal changes nothing
--- Same-number: two names, one entered after the other, get the same number exactly when all their bytes agree
+-- SameNumber: two names, one entered after the other, get the same number exactly when all their bytes agree
 use Rattle.std.specs.Prelude.{◌≡◌, ℕ, ◌+◌, Bool, false, cond, List, [], ◌∷◌, ◌++◌, length, Some, None, Ok, Err, Option, Result, ◌==◌, nat_le, nat_lt}
 use Rattle.std.specs.Str.{bytes_eq}
 use Rattle.tokens.specs.declared.fault.Refusal.{Refusal}

@@ -3,7 +3,7 @@
 -- mend last t: t as it is delivered, a line start mark against the laws cleared, and a comments mark kept once it was seen
 -- missing last c: the line end that is missing before End, at the last token's end and line
 -- mended last c ts: the tokens that the records ts and the closing c give
--- mended_ended, mended_starts, mended-stays: they keep the laws of a source
+-- mended_ended, mended_starts, mended_stays: they keep the laws of a source
 use Rattle.std.specs.Prelude.{◌≡◌, Bool, true, false, cond, ◌&&◌, ◌||◌, List, [], ◌∷◌, Some, None, Option, refl}
 use Rattle.tokens.specs.declared.lexer.LexerTokenValue.TheVariants.{NewLine}
 use Rattle.tokens.specs.declared.lexer.LexerToken.{LexerToken}
