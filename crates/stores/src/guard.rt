@@ -34,7 +34,7 @@ impl Drop for Guard<'_> {
         ensures { tank self.exit.0.now ≡ cut (tank self.entry.meter.now) self.entry.mark.working self.entry.mark.building }
     {
         let mark = self.mark;
-        self.meter.truncate(mark.working, mark.building);
+        self.meter.truncate(mark);
         let Guard { meter: _, mark: _ } = self;
     }
 }

@@ -1,7 +1,7 @@
 // Search by name and stacks, written once for every kind of record.
 ghost use Rattle.std.specs.Prelude.{◌≡◌, ℕ, ◌+◌, ◌-◌, ◌<◌, ◌≤◌, List, [], ◌∷◌, ◌++◌, map, length, take, IfSome, is_ok, IfErr, if◌then◌else◌, vec_len, vec_capacity, Option, MatchOption, nat_lt};
 ghost use Rattle.std.specs.Option.{option_map, option_to_list};
-ghost use Rattle.stores.specs.Places.{bears, place, latest};
+ghost use Rattle.stores.specs.Places.{place, latest};
 ghost use Rattle.stores.specs.Idents.{ident_of};
 
 use tokens::token::{Token, TokenValue};
@@ -26,22 +26,13 @@ impl Named for Token {
     }
 }
 
-fn bears(key: Option<u32>, name: u32) -> bool
-    ensures { result ≡ bears key name }
-{
-    match key {
-        Some(n) => n == name,
-        None => false,
-    }
-}
-
 // The first place whose record bears this name.
 pub fn find<T: Named>(items: &[T], name: u32) -> Option<usize>
     ensures value { result ≡ place 0 name (map T.key items.now) }
     ensures within { IfSome result (λ i. i < length items.now) }
 {
     for (i, x) in items.iter().enumerate() {
-        if bears(x.name(), name) {
+        if x.name() == Some(name) {
             return Some(i);
         }
     }

@@ -1,30 +1,26 @@
 // A part of the working store, from its first token up to the first behind it.
 ghost use Rattle.std.specs.Prelude.{◌≡◌, ℕ, ◌+◌, ◌<◌, ◌≤◌};
-ghost use Rattle.stores.specs.Spans.{nowhere, onward};
+ghost use Rattle.stores.specs.Spans.{onward};
 
-#[derive(Clone, Copy)]
+// The default part is empty.
+#[derive(Clone, Copy, Default)]
 pub struct Span {
     pub from: usize,
     pub to: usize,
 }
 
-// The empty part.
-pub fn no_span() -> Span
-    ensures { result ≡ nowhere }
-{
-    Span { from: 0, to: 0 }
-}
-
-// What is left of a part once its first token is read.
-pub fn onward(s: Span) -> Span
-    ensures { result ≡ onward s }
-{
-    if s.from < s.to {
-        Span {
-            from: s.from + 1,
-            to: s.to,
+impl Span {
+    // What is left of a part once its first token is read.
+    pub fn onward(self) -> Span
+        ensures { result ≡ onward self }
+    {
+        if self.from < self.to {
+            Span {
+                from: self.from + 1,
+                to: self.to,
+            }
+        } else {
+            self
         }
-    } else {
-        s
     }
 }

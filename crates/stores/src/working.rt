@@ -1,11 +1,15 @@
 // The methods of the meter.
-ghost use Rattle.std.specs.Prelude.{◌≡◌, ℕ, ◌+◌, ◌<◌, ◌≤◌, true, ltb, length, IfOk, if◌then◌else◌, nat_lt};
+ghost use Rattle.std.specs.Prelude.{◌≡◌, ℕ, ◌+◌, ◌<◌, ◌≤◌, true, ltb, length, is_ok, IfOk, IfErr, if◌then◌else◌, nat_lt};
+ghost use Rattle.tokens.specs.declared.fault.PreprocessorError.TheVariants.{WorkingTokensFull, MovesSpent};
 ghost use Rattle.std.specs.List.{slice_get};
 ghost use Rattle.stores.specs.Tank.{tank, roomy, stored, built, shifted, whole, spending, emptied, cut, fresh, read};
 
+use crate::guard::Mark;
 use crate::meter::Meter;
+use crate::records::push;
 use crate::span::Span;
 use std::alloc::{AllocError, Global};
+use tokens::fault::PreprocessorError;
 use tokens::token::Token;
 
 // At most this many tokens are stored.
@@ -36,11 +40,7 @@ impl Meter {
     pub fn at(&self, i: usize) -> Option<Token>
         ensures { result ≡ slice_get self.now.working.items i }
     {
-        if i < self.working.len() {
-            Some(self.working[i])
-        } else {
-            None
-        }
+        self.working.get(i).copied()
     }
 
     // The token at the start of a part of the working store.
@@ -51,41 +51,36 @@ impl Meter {
     }
 
     // A gathered token, unless the store is full.
-    pub fn store(&mut self, x: Token) -> bool
-        ensures test { result ≡ roomy (tank self.old) }
+    pub fn store(&mut self, x: Token) -> Result<(), PreprocessorError>
+        ensures test { is_ok result ≡ roomy (tank self.old) }
         ensures after { tank self.new ≡ (if roomy (tank self.old) then stored (tank self.old) x else tank self.old) }
+        ensures refused { IfErr result (λ e. e ≡ WorkingTokensFull) }
     {
-        if self.working.len() + self.building.len() < WORKING {
-            self.working.push_reserved(x);
-            true
-        } else {
-            false
-        }
+        let room = WORKING - self.building.len();
+        push(&mut self.working, room, x).map_err(|_| PreprocessorError::WorkingTokensFull)
     }
 
     // A token that a level puts out, unless the store is full.
-    pub fn build(&mut self, x: Token) -> bool
-        ensures test { result ≡ roomy (tank self.old) }
+    pub fn build(&mut self, x: Token) -> Result<(), PreprocessorError>
+        ensures test { is_ok result ≡ roomy (tank self.old) }
         ensures after { tank self.new ≡ (if roomy (tank self.old) then built (tank self.old) x else tank self.old) }
+        ensures refused { IfErr result (λ e. e ≡ WorkingTokensFull) }
     {
-        if self.working.len() + self.building.len() < WORKING {
-            self.building.push_reserved(x);
-            true
-        } else {
-            false
-        }
+        let room = WORKING - self.working.len();
+        push(&mut self.building, room, x).map_err(|_| PreprocessorError::WorkingTokensFull)
     }
 
-    // Whether a move is granted; it is then spent.
-    pub fn spend(&mut self) -> bool
-        ensures test { result ≡ nat_lt self.old.moves self.old.budget }
+    // A move is spent, if one is granted.
+    pub fn spend(&mut self) -> Result<(), PreprocessorError>
+        ensures test { is_ok result ≡ nat_lt self.old.moves self.old.budget }
         ensures after { tank self.new ≡ (if ltb self.old.moves self.old.budget then spending (tank self.old) (self.old.moves + 1) else tank self.old) }
+        ensures refused { IfErr result (λ e. e ≡ MovesSpent) }
     {
         if self.moves < self.budget {
             self.moves += 1;
-            true
+            Ok(())
         } else {
-            false
+            Err(PreprocessorError::MovesSpent)
         }
     }
 
@@ -116,10 +111,10 @@ impl Meter {
     }
 
     // The tokens past a mark are given back.
-    pub fn truncate(&mut self, working: usize, building: usize)
-        ensures { tank self.new ≡ cut (tank self.old) working building }
+    pub fn truncate(&mut self, mark: Mark)
+        ensures { tank self.new ≡ cut (tank self.old) mark.working mark.building }
     {
-        self.working.truncate(working);
-        self.building.truncate(building);
+        self.working.truncate(mark.working);
+        self.building.truncate(mark.building);
     }
 }

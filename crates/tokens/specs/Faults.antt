@@ -1,5 +1,12 @@
 -- number e: the number of a fault; layered l: of a layer; refused r: of a refusal outside a run; lexical e: a lexer's error as a run raises it
-use Rattle.std.specs.Prelude.{ℕ}
+-- raised k e l: the fault e at the place l, found by the layer k; unexpected k x: of a token that must not stand there
+-- ended f: a step that ends with the fault f; starved: the refusal for want of memory
+use Rattle.std.specs.Prelude.{ℕ, None}
+use Rattle.tokens.specs.declared.location.Location.{Location}
+use Rattle.tokens.specs.declared.token.Token.{Token}
+use Rattle.tokens.specs.declared.fault.Fault.{Fault}
+use Rattle.tokens.specs.declared.fault.StepExit.{StepExit}
+use Rattle.tokens.specs.declared.fault.StepExit.TheVariants.{Error}
 use Rattle.tokens.specs.declared.fault.PreprocessorError.{PreprocessorError}
 use Rattle.tokens.specs.declared.fault.PreprocessorError.TheVariants.{IntegerOverflow, FloatParsingError, UnexpectedCharacter, UnexpectedToken, UnexpectedHash, UnexpectedNewLine, UnexpectedEndOfInput, TooFewDefineArguments, TooManyDefineArguments, ErrorDirective, DuplicateParameter, UnknownDirective, DefineRedefined, ElifOutsideOfBlock, ElseOutsideOfBlock, EndifOutsideOfBlock, ElifAfterElse, MoreThanOneElse, UnfinishedBlock, LineOverflow, NotSupported16BitLiteral, NotSupported64BitLiteral, MacroNotDefined, RecursionLimitReached, DivisionByZero, TooManyDefines, TooManyParameters, KeptTokensFull, WorkingTokensFull, TooManyBlocks, TooManyLevels, ConditionTooDeep, MovesSpent}
 use Rattle.tokens.specs.declared.fault.Layer.{Layer}
@@ -62,3 +69,15 @@ lexical lexer.FloatParsingError = FloatParsingError
 lexical lexer.UnexpectedCharacter = UnexpectedCharacter
 lexical lexer.NotSupported16BitLiteral = NotSupported16BitLiteral
 lexical lexer.NotSupported64BitLiteral = NotSupported64BitLiteral
+
+abbrev pub raised : Layer → PreprocessorError → Location → Fault
+raised k e l = record { error = e; location = l; layer = k; directive = None }
+
+abbrev pub unexpected : Layer → Token → Fault
+unexpected k x = raised k (UnexpectedToken x.value) x.location
+
+abbrev pub ended : Fault → StepExit
+ended f = Error f
+
+abbrev pub starved : Refusal
+starved = Memory

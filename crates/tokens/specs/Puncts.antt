@@ -1,6 +1,8 @@
--- numbered p: the place of a punctuation in the list of all; punct_numbered n: the one at that place; spelled p: its bytes in GLSL
-use Rattle.std.specs.Prelude.{ℕ, List, [], ◌∷◌, codes, Option}
+-- numbered p: the place of a punctuation in the list of all; punct_numbered n: the one at that place; punct_known n: it, or that none is there; spelled p: its bytes in GLSL
+use Rattle.std.specs.Prelude.{ℕ, List, [], ◌∷◌, codes, Option, Result}
 use Rattle.std.specs.List.{slice_get}
+use Rattle.std.specs.Option.{ok_or}
+use Rattle.tokens.specs.declared.punct.UnknownPunct.{UnknownPunct}
 use Rattle.tokens.specs.declared.punct.Punct.{Punct}
 use Rattle.tokens.specs.declared.punct.Punct.TheVariants.{AddAssign, SubAssign, MulAssign, DivAssign, ModAssign, LeftShiftAssign, RightShiftAssign, AndAssign, XorAssign, OrAssign, Increment, Decrement, LogicalAnd, LogicalOr, LogicalXor, LessEqual, GreaterEqual, EqualEqual, NotEqual, LeftShift, RightShift, LeftBrace, RightBrace, LeftParen, RightParen, LeftBracket, RightBracket, LeftAngle, RightAngle, Semicolon, Comma, Colon, Dot, Equal, Bang, Minus, Tilde, Plus, Star, Slash, Percent, Pipe, Caret, Ampersand, Question}
 
@@ -56,6 +58,9 @@ all = AddAssign ∷ SubAssign ∷ MulAssign ∷ DivAssign ∷ ModAssign ∷ Left
 
 abbrev pub punct_numbered : ℕ → Option Punct
 punct_numbered n = slice_get all n
+
+abbrev pub punct_known : ℕ → Result Punct UnknownPunct
+punct_known n = ok_or (punct_numbered n) (record { number = n })
 
 abbrev pub spelled : Punct → List ℕ
 spelled AddAssign = codes "+="

@@ -1,10 +1,12 @@
 // Faults: what went wrong, where, and which layer found it.
 ghost use Rattle.std.specs.Prelude.{◌≡◌};
-ghost use Rattle.tokens.specs.Faults.{number, layered, refused, lexical};
+ghost use Rattle.tokens.specs.Faults.{number, layered, refused, lexical, raised, unexpected, ended, starved};
 
 use crate::lexer::LexerError;
 use crate::location::Location;
-use crate::token::TokenValue;
+use crate::token::{Token, TokenValue};
+use std::alloc::{AllocError, AllocFailed};
+use std::fmt;
 
 #[derive(Clone, Copy)]
 pub enum PreprocessorError {
@@ -44,9 +46,9 @@ pub enum PreprocessorError {
     MovesSpent,
 }
 
-#[derive(Clone, Copy)]
+#[derive(Clone, Copy, PartialEq, Eq)]
 pub enum Layer {
-    Source,
+    Source = 1,
     Directives,
     Conditions,
     Expansion,
@@ -72,12 +74,12 @@ pub enum StepExit {
 pub type Step<T> = Result<T, StepExit>;
 
 // Refusals outside a run: a name's length, a full name table, a bad token file, want of memory.
-#[derive(Clone, Copy)]
+#[derive(Clone, Copy, PartialEq, Eq)]
 pub enum Refusal {
-    NameLength,
-    NamesFull,
-    BadFile,
     Memory,
+    NameLength = 31,
+    NamesFull,
+    BadFile = 41,
 }
 
 impl PreprocessorError {
@@ -126,12 +128,7 @@ impl Layer {
     pub fn number(self) -> u32
         ensures { result ≡ layered self }
     {
-        match self {
-            Layer::Source => 1,
-            Layer::Directives => 2,
-            Layer::Conditions => 3,
-            Layer::Expansion => 4,
-        }
+        self as u32
     }
 }
 
@@ -140,26 +137,86 @@ impl Refusal {
     pub fn number(self) -> u32
         ensures { result ≡ refused self }
     {
-        match self {
-            Refusal::NameLength => 31,
-            Refusal::NamesFull => 32,
-            Refusal::BadFile => 41,
-            Refusal::Memory => 0,
-        }
+        self as u32
     }
 }
 
-impl LexerError {
-    // The same error, as a run raises it.
-    pub fn raised(self) -> PreprocessorError
-        ensures { result ≡ lexical self }
+impl Fault {
+    pub fn new(error: PreprocessorError, location: Location, layer: Layer) -> Fault
+        ensures { result ≡ raised layer error location }
     {
-        match self {
+        Fault {
+            error,
+            location,
+            layer,
+            directive: None,
+        }
+    }
+
+    // A token that must not stand where it does.
+    pub fn unexpected(token: Token, layer: Layer) -> Fault
+        ensures { result ≡ unexpected layer token }
+    {
+        Fault::new(
+            PreprocessorError::UnexpectedToken(token.value),
+            token.location,
+            layer,
+        )
+    }
+}
+
+impl From<Fault> for StepExit {
+    ghost from_gives = { λ f exit. exit ≡ ended f };
+
+    fn from(fault: Fault) -> StepExit {
+        StepExit::Error(fault)
+    }
+}
+
+// The same error, as a run raises it.
+impl From<LexerError> for PreprocessorError {
+    ghost from_gives = { λ e error. error ≡ lexical e };
+
+    fn from(error: LexerError) -> PreprocessorError {
+        match error {
             LexerError::IntegerOverflow => PreprocessorError::IntegerOverflow,
             LexerError::FloatParsingError => PreprocessorError::FloatParsingError,
             LexerError::UnexpectedCharacter => PreprocessorError::UnexpectedCharacter,
             LexerError::NotSupported16BitLiteral => PreprocessorError::NotSupported16BitLiteral,
             LexerError::NotSupported64BitLiteral => PreprocessorError::NotSupported64BitLiteral,
         }
+    }
+}
+
+impl From<AllocError> for Refusal {
+    ghost from_gives = { λ _ refusal. refusal ≡ starved };
+
+    fn from(_error: AllocError) -> Refusal {
+        Refusal::Memory
+    }
+}
+
+impl<T: Drop> From<AllocFailed<T>> for Refusal {
+    ghost from_gives = { λ _ refusal. refusal ≡ starved };
+
+    fn from(_error: AllocFailed<T>) -> Refusal {
+        Refusal::Memory
+    }
+}
+
+// The number, the layer and the line.
+impl fmt::Display for Fault {
+    fn fmt<W: fmt::Write>(&self, f: &mut fmt::Formatter<W>) -> fmt::Result {
+        let number = self.error.number();
+        let layer = self.layer.number();
+        let line = self.location.line;
+        write!(f, "fault {number} {layer} {line}")
+    }
+}
+
+impl fmt::Display for Refusal {
+    fn fmt<W: fmt::Write>(&self, f: &mut fmt::Formatter<W>) -> fmt::Result {
+        let number = self.number();
+        write!(f, "fault {number}")
     }
 }

@@ -2,7 +2,7 @@
 ghost use Rattle.std.specs.Prelude.{◌≡◌};
 ghost use Rattle.std.specs.Float.Ieee.{nan_bits};
 ghost use Rattle.std.specs.Float.{binary32};
-ghost use Rattle.tokens.specs.Floats.{value_equal, float_equal};
+ghost use Rattle.tokens.specs.Floats.{value_equal, float_equal, float_laws};
 
 use crate::token::Float;
 
@@ -21,12 +21,12 @@ fn same_value(a: u32, b: u32) -> bool
     f32::from_bits(a) == f32::from_bits(b)
 }
 
-pub fn same_float(a: Float, b: Float) -> bool
-    ensures { result ≡ float_equal a b }
-{
-    if a.width == b.width {
-        same_value(a.bits, b.bits)
-    } else {
-        false
+impl PartialEq for Float {
+    ghost eq = { float_equal };
+
+    ghost laws = { float_laws };
+
+    fn eq(&self, other: &Float) -> bool {
+        self.width == other.width && same_value(self.bits, other.bits)
     }
 }

@@ -24,7 +24,7 @@ pub struct LexerToken {
 }
 
 // What a lexer can find wrong.
-#[derive(Clone, Copy)]
+#[derive(Clone, Copy, PartialEq, Eq)]
 pub enum LexerError {
     IntegerOverflow,
     FloatParsingError,

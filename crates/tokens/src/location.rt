@@ -2,7 +2,7 @@
 ghost use Rattle.std.specs.Prelude.{◌≡◌};
 ghost use Rattle.tokens.specs.Places.{origin};
 
-#[derive(Clone, Copy)]
+#[derive(Clone, Copy, PartialEq, Eq)]
 pub struct Location {
     // offset of the first byte
     pub start: u32,
@@ -12,12 +12,14 @@ pub struct Location {
 }
 
 // The place of what has none of its own.
-pub fn default_location() -> Location
-    ensures { result ≡ origin }
-{
-    Location {
-        start: 0,
-        end: 0,
-        line: 1,
+impl Default for Location {
+    ghost is_default = { λ l. l ≡ origin };
+
+    fn default() -> Location {
+        Location {
+            start: 0,
+            end: 0,
+            line: 1,
+        }
     }
 }

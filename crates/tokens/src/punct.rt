@@ -1,8 +1,8 @@
 // The punctuation of GLSL.
-ghost use Rattle.std.specs.Prelude.{◌≡◌, Decides};
-ghost use Rattle.tokens.specs.Puncts.{numbered, punct_numbered, spelled};
+ghost use Rattle.std.specs.Prelude.{◌≡◌};
+ghost use Rattle.tokens.specs.Puncts.{numbered, punct_known, spelled};
 
-#[derive(Clone, Copy)]
+#[derive(Clone, Copy, PartialEq, Eq)]
 pub enum Punct {
     AddAssign,
     SubAssign,
@@ -52,16 +52,18 @@ pub enum Punct {
 }
 
 // The place in the list above.
-pub fn number_of(p: Punct) -> u8
-    ensures { result ≡ numbered p }
-{
-    p as u8
+impl From<Punct> for u8 {
+    ghost from_gives = { λ p n. n ≡ numbered p };
+
+    fn from(p: Punct) -> u8 {
+        p as u8
+    }
 }
 
-pub fn same_punct(a: Punct, b: Punct) -> bool
-    ensures { Decides result (a ≡ b) }
-{
-    number_of(a) == number_of(b)
+// A number from 45 on.
+#[derive(Clone, Copy, PartialEq, Eq)]
+pub struct UnknownPunct {
+    pub number: u8,
 }
 
 const PUNCTS: [Punct; 45] = [
@@ -112,14 +114,18 @@ const PUNCTS: [Punct; 45] = [
     Punct::Question,
 ];
 
-// The punctuation at a place of the list, none from 45 on.
-pub fn punct_of(n: u8) -> Option<Punct>
-    ensures { result ≡ punct_numbered n }
-{
-    if n < 45 {
-        Some(PUNCTS[n as usize])
-    } else {
-        None
+// The punctuation at a place of the list.
+impl TryFrom<u8> for Punct {
+    type Error = UnknownPunct;
+
+    ghost try_from_gives = { λ n r. r ≡ punct_known n };
+
+    fn try_from(n: u8) -> Result<Punct, UnknownPunct> {
+        if n < 45 {
+            Ok(PUNCTS[n as usize])
+        } else {
+            Err(UnknownPunct { number: n })
+        }
     }
 }
 

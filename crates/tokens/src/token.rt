@@ -2,7 +2,7 @@
 use crate::location::Location;
 use crate::punct::Punct;
 
-#[derive(Clone, Copy)]
+#[derive(Clone, Copy, PartialEq, Eq)]
 pub struct Integer {
     pub value: u64,
     pub signed: bool,
