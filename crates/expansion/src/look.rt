@@ -9,7 +9,7 @@ use crate::phases::fail;
 use crate::processor::MacroProcessor;
 use books::Feed;
 use stores::meter::Meter;
-use tokens::fault::{PreprocessorError, Step};
+use tokens::fault::Step;
 use tokens::token::Token;
 
 impl MacroProcessor {
@@ -18,8 +18,8 @@ impl MacroProcessor {
         ensures moved { Moved (F.Book.defs feed.old) (view self.old) (tank meter.old) (F.Book.defs feed.new) (view self.new) (tank meter.new) }
         ensures pays { PaysFor result (tank meter.old) (tank meter.new) }
     {
-        if !meter.spend() {
-            return fail(PreprocessorError::MovesSpent, feed.place());
+        if let Err(error) = meter.spend() {
+            return fail(error, feed.place());
         }
         self.move_on(feed, meter)
     }

@@ -12,7 +12,7 @@ use crate::processor::MacroProcessor;
 use books::{Book, Handle};
 use stores::meter::Meter;
 use stores::records::pop;
-use stores::span::{Span, onward};
+use stores::span::Span;
 use tokens::fault::{Step, StepExit};
 use tokens::token::{Token, TokenValue};
 
@@ -25,7 +25,7 @@ impl MacroProcessor {
         let n = self.invocations.len();
         match meter.read(s) {
             Some(x) => {
-                self.invocations[n - 1].reading = Some(onward(s));
+                self.invocations[n - 1].reading = Some(s.onward());
                 Ok(x)
             }
             None => {
@@ -104,7 +104,7 @@ impl MacroProcessor {
     {
         match meter.read(self.input) {
             Some(x) => {
-                self.input = onward(self.input);
+                self.input = self.input.onward();
                 Ok(x)
             }
             None => Err(StepExit::Finished),

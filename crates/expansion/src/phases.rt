@@ -33,12 +33,7 @@ impl Named for DefineInvocation {
 pub fn fail(error: PreprocessorError, location: Location) -> Step<Token>
     ensures { result ≡ fault error location }
 {
-    Err(StepExit::Error(Fault {
-        error,
-        location,
-        layer: Layer::Expansion,
-        directive: None,
-    }))
+    Err(Fault::new(error, location, Layer::Expansion).into())
 }
 
 // The current argument is whole: it ends at the mark.
@@ -86,7 +81,7 @@ fn opened(callee: Callee, location: Location, from: usize) -> Call
 fn is_spent(error: PreprocessorError) -> bool
     ensures { result ≡ spent error }
 {
-    error.number() == 40
+    matches!(error, PreprocessorError::MovesSpent)
 }
 
 impl MacroProcessor {
@@ -158,10 +153,9 @@ impl MacroProcessor {
         if self.below.len() == 0 {
             return Some(Ok(x));
         }
-        if meter.build(x) {
-            None
-        } else {
-            Some(fail(PreprocessorError::WorkingTokensFull, x.location))
+        match meter.build(x) {
+            Ok(()) => None,
+            Err(error) => Some(fail(error, x.location)),
         }
     }
 
@@ -288,11 +282,12 @@ impl MacroProcessor {
     fn keep(&mut self, call: Call, x: Token, meter: &mut Meter) -> Option<Step<Token>>
         ensures { Made (storing (view self.old) (tank meter.old) call x) result (view self.new) (tank meter.new) }
     {
-        if meter.store(x) {
-            self.phase = Phase::Gather(call);
-            None
-        } else {
-            Some(fail(PreprocessorError::WorkingTokensFull, x.location))
+        match meter.store(x) {
+            Ok(()) => {
+                self.phase = Phase::Gather(call);
+                None
+            }
+            Err(error) => Some(fail(error, x.location)),
         }
     }
 }

@@ -6,7 +6,7 @@ ghost use Rattle.expansion.specs.Processor.{view, fresh};
 use crate::invocation::Phase;
 use crate::processor::MacroProcessor;
 use std::alloc::{AllocError, Global};
-use stores::span::no_span;
+use stores::span::Span;
 
 impl MacroProcessor {
     pub fn new(heap: Global) -> Result<MacroProcessor, AllocError>
@@ -14,10 +14,10 @@ impl MacroProcessor {
     {
         let below = Vec::with_capacity(heap, 16)?;
         let invocations = Vec::with_capacity(heap, 513)?;
-        let arguments = vec![in heap; no_span(); 16960]?;
+        let arguments = vec![in heap; Span::default(); 16960]?;
         Ok(MacroProcessor {
             phase: Phase::Plain,
-            input: no_span(),
+            input: Span::default(),
             start: 0,
             line: 0,
             below,
@@ -31,7 +31,7 @@ impl MacroProcessor {
         ensures { view self.new ≡ fresh self.old.arguments.items }
     {
         self.phase = Phase::Plain;
-        self.input = no_span();
+        self.input = Span::default();
         self.start = 0;
         self.line = 0;
         self.below.clear();

@@ -5,7 +5,7 @@ ghost use Rattle.expansion.specs.Processor.{view, argued};
 ghost use Rattle.expansion.specs.Arguments.{arg_at, with_arg, copied, slot_of_call};
 
 use crate::processor::MacroProcessor;
-use stores::span::{Span, no_span};
+use stores::span::Span;
 
 // 513 macros and 17 levels.
 pub const SLOTS: usize = 530;
@@ -25,10 +25,10 @@ impl MacroProcessor {
             if slot < SLOTS {
                 self.arguments[slot * 32 + i]
             } else {
-                no_span()
+                Span::default()
             }
         } else {
-            no_span()
+            Span::default()
         }
     }
 

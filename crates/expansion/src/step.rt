@@ -10,7 +10,7 @@ use crate::phases::fail;
 use crate::processor::MacroProcessor;
 use books::Feed;
 use stores::meter::Meter;
-use tokens::fault::{PreprocessorError, Step, StepExit};
+use tokens::fault::{Step, StepExit};
 use tokens::token::{Integer, Token, TokenValue};
 use tokens::words::LINE_MACRO;
 
@@ -81,8 +81,8 @@ impl MacroProcessor {
         ensures moved { Moved (F.Book.defs feed.old) (view self.old) (tank meter.old) (F.Book.defs feed.new) (view self.new) (tank meter.new) }
         ensures pays { Pays result (tank meter.old) (tank meter.new) }
     {
-        if !meter.spend() {
-            return Some(fail(PreprocessorError::MovesSpent, feed.place()));
+        if let Err(error) = meter.spend() {
+            return Some(fail(error, feed.place()));
         }
         let met = self.move_on(feed, meter);
         self.meet(met, feed, meter)

@@ -4,9 +4,9 @@ use Rattle.expansion.specs.Processor.{view}
 use Rattle.expansion.proofs.Motions.{refused_moved, charged_moved, charged_more, then_moved, paid_fault, paid_for}
 use Rattle.expansion.proofs.processor.MacroProcessor.raw_step.Goals as goal
 
-pub returns-then-not-spend : goal.returns-then-not-spend
-returns-then-not-spend g c = record {
-  moved = refused_moved (g.F.Book.defs c.args.feed.now) (view c.args.self.now) (tank c.args.meter.now) _ _ (sym c.if-not-spend.ensures.test) c.spend.ensures.after;
+pub returns-in-Err : goal.returns-in-Err
+returns-in-Err g c = record {
+  moved = refused_moved (g.F.Book.defs c.args.feed.now) (view c.args.self.now) (tank c.args.meter.now) _ _ (sym c.in-Err.ensures.test) c.spend.ensures.after;
   pays = paid_fault _ _ _ _ _ c.fail.ensures;
 }
 
@@ -14,7 +14,7 @@ pub returns : goal.returns
 returns g c =
     let t = tank c.args.meter.now in
     let u = tank c.spend.new.self in
-    let test = sym c.if-not-spend.ensures.test in
+    let test = sym c.in_default.ensures.test in
     record {
       moved = then_moved _ _ _ _ _ _ t u _ (charged_moved (g.F.Book.defs c.args.feed.now) (view c.args.self.now) t u _ test c.spend.ensures.after) c.move_on.ensures;
       pays =
