@@ -1,12 +1,14 @@
 -- number e: the number of a fault; layered l: of a layer; refused r: of a refusal outside a run; lexical e: a lexer's error as a run raises it
 -- raised k e l: the fault e at the place l, found by the layer k; unexpected k x: of a token that must not stand there
--- ended f: a step that ends with the fault f; starved: the refusal for want of memory
+-- ended f: a step that ends with the fault f; closed c: one that meets the closing of a source; starved: the refusal for want of memory
 use Rattle.std.specs.Prelude.{ℕ, None}
 use Rattle.tokens.specs.declared.location.Location.{Location}
 use Rattle.tokens.specs.declared.token.Token.{Token}
 use Rattle.tokens.specs.declared.fault.Fault.{Fault}
 use Rattle.tokens.specs.declared.fault.StepExit.{StepExit}
-use Rattle.tokens.specs.declared.fault.StepExit.TheVariants.{Error}
+use Rattle.tokens.specs.declared.fault.StepExit.TheVariants.{Error, Finished}
+use Rattle.tokens.specs.declared.lexer.Closing.{Closing}
+use Rattle.tokens.specs.declared.lexer.Closing.TheVariants as closing
 use Rattle.tokens.specs.declared.fault.PreprocessorError.{PreprocessorError}
 use Rattle.tokens.specs.declared.fault.PreprocessorError.TheVariants.{IntegerOverflow, FloatParsingError, UnexpectedCharacter, UnexpectedToken, UnexpectedHash, UnexpectedNewLine, UnexpectedEndOfInput, TooFewDefineArguments, TooManyDefineArguments, ErrorDirective, DuplicateParameter, UnknownDirective, DefineRedefined, ElifOutsideOfBlock, ElseOutsideOfBlock, EndifOutsideOfBlock, ElifAfterElse, MoreThanOneElse, UnfinishedBlock, LineOverflow, NotSupported16BitLiteral, NotSupported64BitLiteral, MacroNotDefined, RecursionLimitReached, DivisionByZero, TooManyDefines, TooManyParameters, KeptTokensFull, WorkingTokensFull, TooManyBlocks, TooManyLevels, ConditionTooDeep, MovesSpent}
 use Rattle.tokens.specs.declared.fault.Layer.{Layer}
@@ -78,6 +80,10 @@ unexpected k x = raised k (UnexpectedToken x.value) x.location
 
 abbrev pub ended : Fault → StepExit
 ended f = Error f
+
+abbrev pub closed : Closing → StepExit
+closed closing.End = Finished
+closed (closing.Fault e l) = ended (raised Source (lexical e) l)
 
 abbrev pub starved : Refusal
 starved = Memory

@@ -1,8 +1,8 @@
 // Faults: what went wrong, where, and which layer found it.
 ghost use Rattle.std.specs.Prelude.{◌≡◌};
-ghost use Rattle.tokens.specs.Faults.{number, layered, refused, lexical, raised, unexpected, ended, starved};
+ghost use Rattle.tokens.specs.Faults.{number, layered, refused, lexical, raised, unexpected, ended, closed, starved};
 
-use crate::lexer::LexerError;
+use crate::lexer::{Closing, LexerError};
 use crate::location::Location;
 use crate::token::{Token, TokenValue};
 use std::alloc::{AllocError, AllocFailed};
@@ -184,6 +184,22 @@ impl From<LexerError> for PreprocessorError {
             LexerError::UnexpectedCharacter => PreprocessorError::UnexpectedCharacter,
             LexerError::NotSupported16BitLiteral => PreprocessorError::NotSupported16BitLiteral,
             LexerError::NotSupported64BitLiteral => PreprocessorError::NotSupported64BitLiteral,
+        }
+    }
+}
+
+// How a source that is read to its closing ends a step.
+impl From<Closing> for StepExit {
+    ghost from_gives = { λ c exit. exit ≡ closed c };
+
+    fn from(closing: Closing) -> StepExit {
+        match closing {
+            Closing::End => StepExit::Finished,
+            Closing::Fault(error, location) => Fault::new(
+                error.into(),
+                location,
+                Layer::Source,
+            ).into(),
         }
     }
 }
