@@ -1,15 +1,15 @@
 -- What a handle means and where a name is found, from the definitions.
-use Rattle.std.proofs.Common.{◌≡◌, ℕ, ◌+◌, ◌-◌, ◌<◌, ◌≤◌, Bool, true, false, cond, eqb, List, [], ◌∷◌, map, length, get_or, drop, Some, None, sym, refl, ap, ◌∙◌, arith}
-use Rattle.std.proofs.lemmas.List.{length-take, length-drop, get_or-take, get_or-drop, get_or-map, at_drop_more, at_drop_all}
-use Rattle.std.proofs.lemmas.Option.{slice_get_past, slice_get-get_or}
+use Rattle.std.proofs.Common.{◌≡◌, ℕ, zero, suc, ◌+◌, ◌-◌, ◌<◌, ◌≤◌, Bool, true, false, cond, eqb, List, [], ◌∷◌, filter, map, length, get_or, take, drop, Some, None, sym, refl, ap, ◌∙◌, arith}
+use Rattle.std.proofs.lemmas.List.{length-take, length-drop}
+use Rattle.std.proofs.lemmas.Option.{slice_get_past}
 use Rattle.std.specs.List.{slice_get}
 use Rattle.stores.specs.Places.{bears, place}
 use Rattle.tokens.specs.declared.token.Token.{Token}
 use Rattle.tokens.specs.declared.token.Part.{Part}
-use Rattle.books.specs.Book.{none, mean, hit, seek, live}
+use Rattle.books.specs.Book.{mean, hit, seek, live}
 use Rattle.defines.specs.declared.define.Define.{Define}
 use Rattle.defines.specs.Parts.{part_of, entry, entries, shelf, key_of, vacant, Within}
-use Rattle.defines.specs.Entries.{entry_at, entries_len}
+use Rattle.defines.specs.Entries.{entry_at}
 
 bears_hit : (b : Bool) (m n : ℕ) → bears (cond b (Some m) None) n ≡ cond b (eqb m n) false
 bears_hit true m n = refl
@@ -31,13 +31,21 @@ module _ (kept : List Token) (table : List Define) (h : ℕ) (d : Define) (e : d
       let long : p.len ≡ length (part_of kept p) = omega (arith, w.0, length-take p.len (drop p.start kept), length-drop p.start kept) in
       ap (λ x. x.params.len) e ∙ long ∙ ap (λ x. length (part_of kept x.params)) (sym e) ∙ ap (λ x. length x.params) meant
 
+get_take : {X : Type 0} (n : ℕ) (xs : List X) (i : ℕ) → i < n → slice_get (take n xs) i ≡ slice_get xs i
+get_take zero xs i h = absurd (omega (arith, h))
+get_take (suc n) [] i h = refl
+get_take (suc n) (x ∷ xs) zero h = refl
+get_take (suc n) (x ∷ xs) (suc i) h = get_take n xs i (omega (arith, h))
+
+get_drop : {X : Type 0} (n : ℕ) (xs : List X) (i : ℕ) → slice_get (drop n xs) i ≡ slice_get xs (n + i)
+get_drop zero xs i = let z : i ≡ 0 + i = omega arith in ap (slice_get xs) z
+get_drop (suc n) [] i = refl
+get_drop (suc n) (x ∷ xs) i = let z : suc (n + i) ≡ suc n + i = omega arith in get_drop n xs i ∙ ap (slice_get (x ∷ xs)) z
+
 -- a token of a part
 module _ (kept : List Token) (p : Part) (i : ℕ) where
-  pub token_at : (x : Token) → i < p.len → p.start + i < length kept → x ≡ get_or kept (p.start + i) x → Some x ≡ slice_get (part_of kept p) i
-  token_at x l w e =
-      let long : i < length (part_of kept p) = omega (arith, length-take p.len (drop p.start kept), length-drop p.start kept) in
-      let read : get_or (part_of kept p) i x ≡ get_or kept (p.start + i) x = get_or-take p.len (drop p.start kept) i x l ∙ get_or-drop p.start kept i x in
-      ap Some (e ∙ sym read) ∙ sym (slice_get-get_or (part_of kept p) i x long)
+  pub part_get : i < p.len → slice_get (part_of kept p) i ≡ slice_get kept (p.start + i)
+  part_get l = get_take p.len (drop p.start kept) i l ∙ get_drop p.start kept i
 
   pub token_past : length (part_of kept p) ≤ i → None ≡ slice_get (part_of kept p) i
   token_past l = sym (slice_get_past (part_of kept p) i l)
@@ -48,12 +56,11 @@ module _ (kept : List Token) (p : Part) (i : ℕ) where
   pub part_rest : length (part_of kept p) ≤ length kept - p.start
   part_rest = omega (arith, length-take p.len (drop p.start kept), length-drop p.start kept)
 
--- how many are in force, one place on
-pub live_more : (kept : List Token) (table t : List Define) → t ≡ table → (i : ℕ) (d : Define) (b : Bool) → i < length t → (get_or t i d).in_force ≡ b → live (drop i (entries kept table)) ≡ cond b 1 0 + live (drop (i + 1) (entries kept table))
-live_more kept table t same i d b h e =
-    let rest = live (drop (i + 1) (entries kept t)) in
-    let inside : i < length (entries kept t) = omega (arith, entries_len kept t) in
-    sym (ap (λ u. live (drop i (entries kept u))) same) ∙ at_drop_more live (entries kept t) i none inside ∙ ap (λ x. cond x.live 1 0 + rest) (get_or-map (entry kept) t i d none h) ∙ ap (λ x. cond x 1 0 + rest) e ∙ ap (λ u. cond b 1 0 + live (drop (i + 1) (entries kept u))) same
-
-pub live_end : (kept : List Token) (table t : List Define) → t ≡ table → (i : ℕ) → length t ≤ i → live (drop i (entries kept table)) ≡ 0
-live_end kept table t same i h = at_drop_all live (entries kept table) i (omega (arith, entries_len kept table, ap length same))
+-- how many are in force
+pub live_filter : (kept : List Token) (table : List Define) → length (filter (λ d. d.in_force) table) ≡ live (entries kept table)
+live_filter kept [] = refl
+live_filter kept (d ∷ ds) = by_force d.in_force (live_filter kept ds)
+  where
+    by_force : (b : Bool) → length (filter (λ x. x.in_force) ds) ≡ live (entries kept ds) → length (cond b (d ∷ filter (λ x. x.in_force) ds) (filter (λ x. x.in_force) ds)) ≡ cond b 1 0 + live (entries kept ds)
+    by_force true e = omega (arith, e)
+    by_force false e = omega (arith, e)

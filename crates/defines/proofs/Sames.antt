@@ -1,7 +1,10 @@
 -- Two token lists are compared place by place.
-use Rattle.std.proofs.Common.{◌≡◌, ℕ, suc, ◌+◌, ◌-◌, ◌<◌, ◌≤◌, Bool, true, false, cond, not, List, [], ◌∷◌, length, get_or, take, drop, sym, refl, ap, ◌∙◌}
+use Rattle.std.proofs.Common.{◌≡◌, ℕ, zero, suc, ◌-◌, ◌<◌, Bool, true, false, cond, not, List, [], ◌∷◌, length, take, drop, slice_index_or, sym, refl, ap, ◌∙◌, arith}
+use Rattle.std.specs.Bool.{MatchBool}
+use Rattle.std.specs.List.{zip, AllWithin, HoldsAt, AllByRecursion as ByRecursion}
+use Rattle.std.proofs.lemmas.List.Elements.{recursion_from_All}
 use mathlib.Core.Bool.{beq}
-use Rattle.std.proofs.lemmas.List.{at_drop_more, at_drop_all, take_rest}
+use Rattle.std.proofs.lemmas.List.{take_rest}
 use Rattle.tokens.specs.declared.token.Token.{Token}
 use Rattle.defines.specs.Values.{values_agree, token_lists_agree, legal}
 use Rattle.books.specs.Book.{Definition}
@@ -16,18 +19,26 @@ uneven [] (y ∷ ys) h = refl
 uneven (x ∷ xs) [] h = refl
 uneven (x ∷ xs) (y ∷ ys) h = ap (λ b. cond (values_agree x.value y.value) b false) (uneven xs ys (λ e. h (ap suc e))) ∙ never (values_agree x.value y.value)
 
-module _ (xs ys : List Token) (i : ℕ) (inv : token_lists_agree (drop i xs) (drop i ys) ≡ token_lists_agree xs ys) where
-  one : (x y : Token) → i < length xs → i < length ys → token_lists_agree xs ys ≡ cond (values_agree (get_or xs i x).value (get_or ys i y).value) (token_lists_agree (drop (i + 1) xs) (drop (i + 1) ys)) false
-  one x y a b = sym inv ∙ at_drop_more (λ l. token_lists_agree l (drop i ys)) xs i x a ∙ at_drop_more (λ l. token_lists_agree (get_or xs i x ∷ drop (i + 1) xs) l) ys i y b
+-- the values of a pair of tokens agree
+abbrev pub alike : Token × Token → Bool
+alike p = values_agree p.0.value p.1.value
 
-  pub equal_so_far : (x y : Token) → i < length xs → i < length ys → values_agree (get_or xs i x).value (get_or ys i y).value ≡ true → token_lists_agree (drop (i + 1) xs) (drop (i + 1) ys) ≡ token_lists_agree xs ys
-  equal_so_far x y a b e = sym (one x y a b ∙ ap (λ t. cond t (token_lists_agree (drop (i + 1) xs) (drop (i + 1) ys)) false) e)
+agree_all : (xs ys : List Token) → length xs ≡ length ys → ByRecursion (λ p. alike p ≡ true) (zip xs ys) → token_lists_agree xs ys ≡ true
+agree_all [] [] e h = refl
+agree_all [] (y ∷ ys) e h = absurd (omega (arith, e))
+agree_all (x ∷ xs) [] e h = absurd (omega (arith, e))
+agree_all (x ∷ xs) (y ∷ ys) e h = ap (λ b. cond b (token_lists_agree xs ys) false) h.0 ∙ agree_all xs ys (omega (arith, e)) h.1
 
-  pub differ : (x y : Token) → i < length xs → i < length ys → values_agree (get_or xs i x).value (get_or ys i y).value ≡ false → false ≡ token_lists_agree xs ys
-  differ x y a b e = sym (one x y a b ∙ ap (λ t. cond t (token_lists_agree (drop (i + 1) xs) (drop (i + 1) ys)) false) e)
+differ_at : (xs ys : List Token) (k : ℕ) → k < length (zip xs ys) → ((d : Token × Token) → alike (slice_index_or (zip xs ys) k d) ≡ false) → token_lists_agree xs ys ≡ false
+differ_at [] ys k h e = absurd (omega (arith, h))
+differ_at (x ∷ xs) [] k h e = refl
+differ_at (x ∷ xs) (y ∷ ys) zero h e = ap (λ b. cond b (token_lists_agree xs ys) false) (e (x, y))
+differ_at (x ∷ xs) (y ∷ ys) (suc k) h e = ap (λ b. cond (values_agree x.value y.value) b false) (differ_at xs ys k (omega (arith, h)) e) ∙ never (values_agree x.value y.value)
 
-  pub equal_all : length xs ≤ i → length ys ≤ i → true ≡ token_lists_agree xs ys
-  equal_all a b = sym (at_drop_all (λ l. token_lists_agree l (drop i ys)) xs i a ∙ at_drop_all (λ l. token_lists_agree [] l) ys i b) ∙ inv
+-- what comparing all pairs answers
+pub agreed : (xs ys : List Token) (r : Bool) → length xs ≡ length ys → MatchBool r (AllWithin (λ p. alike p ≡ true) (zip xs ys) 0 (length (zip xs ys))) ((k : ℕ) × (k < length (zip xs ys)) × HoldsAt (λ p. alike p ≡ false) (zip xs ys) k) → r ≡ token_lists_agree xs ys
+agreed xs ys true e h = sym (agree_all xs ys e (recursion_from_All _ _ (λ k d l. h k d (omega arith) l)))
+agreed xs ys false e h = sym (differ_at xs ys h.0 h.1 h.2)
 
 -- the same of lists that are read from a store
 pub parts_told : (kept k p : List Token) (q : List Token) (start len : ℕ) (r : Bool) → p ≡ q → k ≡ kept → r ≡ token_lists_agree p (take len (drop start k)) → r ≡ token_lists_agree q (take len (drop start kept))

@@ -1,9 +1,7 @@
 -- Steps of a search, and the last element.
 use Rattle.std.proofs.Common.{◌≡◌, ℕ, suc, ◌+◌, ◌-◌, ◌<◌, ◌≤◌, true, false, cond, ltb, List, [], ◌∷◌, ◌++◌, map, length, get_or, drop, is_some, Some, None, Option, nat_eq, sym, refl, ap, ◌∙◌, arith, Bor}
 use Rattle.std.specs.Option.{option_eq, option_map, option_to_list}
-use Rattle.std.specs.Slice.{IsGetResult, IsItemAt}
-use Rattle.std.specs.List.{slice_get}
-use Rattle.std.proofs.lemmas.Option.{slice_get_read, slice_get_past}
+use Rattle.std.specs.Slice.{IsGetResult}
 use Rattle.std.proofs.lemmas.List.{at_drop_more, at_drop_all, get_or-map, length-map}
 use Rattle.std.proofs.lemmas.Bool.Decides.{nat_tests}
 use Rattle.stores.specs.Places.{bears, place, latest}
@@ -38,11 +36,6 @@ pub is_latest : {X : Type 0} (xs : List X) (r : Option (Bor X)) → IsGetResult 
 is_latest [] None h = refl
 is_latest (x ∷ xs) None h = absurd (omega (arith, h.3))
 is_latest xs (Some y) h = ap Some h.1 ∙ sym (latest_last xs y.now h.3.0)
-
--- a copy of what `get` lends
-pub lent_at : {X : Type 0} (xs : List X) (i : ℕ) (r : Option (Bor X)) → IsItemAt xs i r → option_map (λ x. x.now) r ≡ slice_get xs i
-lent_at xs i None h = sym (slice_get_past xs i h.3)
-lent_at xs i (Some y) h = sym (slice_get_read xs (length xs) i y.now refl h.3.0 h.1)
 
 pub latest_push : {X : Type 0} (xs : List X) (x : X) → latest (xs ++ x ∷ []) ≡ Some x
 latest_push [] x = refl

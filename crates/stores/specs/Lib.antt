@@ -3,3 +3,4 @@ pub mod Places
 pub mod Tank
 pub mod Marks
 pub mod Idents
+pub mod Lent

@@ -34,11 +34,7 @@ impl Defines {
     pub(super) fn define(&self, handle: Handle) -> Define
         ensures { result ≡ slice_index_or self.now.table.items handle vacant }
     {
-        if handle < self.table.len() {
-            self.table[handle]
-        } else {
-            NONE
-        }
+        self.table.get(handle).copied().unwrap_or(NONE)
     }
 
     pub(super) fn part(&self, part: Part) -> &[Token]
@@ -54,9 +50,8 @@ impl Defines {
     pub fn part_token(&self, part: Part, i: usize) -> Option<Token>
         ensures { result ≡ slice_get (part_of self.now.kept.items part) i }
     {
-        let end = self.kept.len();
-        if i < part.len && part.start < end && i < end - part.start {
-            Some(self.kept[part.start + i])
+        if i < part.len {
+            self.kept.get(part.start.checked_add(i)?).copied()
         } else {
             None
         }

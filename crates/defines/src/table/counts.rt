@@ -24,12 +24,6 @@ impl Defines {
     pub fn in_force(&self) -> usize
         ensures { result ≡ live (held self.now).table }
     {
-        let mut n = 0;
-        for d in self.table.as_slice() {
-            if d.in_force {
-                n += 1;
-            }
-        }
-        n
+        self.table.iter().filter(|d| d.in_force).count()
     }
 }

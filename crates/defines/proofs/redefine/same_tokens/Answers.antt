@@ -1,15 +1,11 @@
-use Rattle.std.proofs.Common.{sym, arith}
-use Rattle.defines.proofs.Sames.{uneven, equal_so_far, differ, equal_all}
+use Rattle.std.proofs.Common.{◌≡◌, true, false, sym, rules, ◌∙◌}
+use Rattle.std.proofs.lemmas.Iterator.{YieldsList-from_slice, YieldsList-from_zip, cases_from_all}
+use borrow.Author.Tests.{tests}
+use Rattle.defines.proofs.Sames.{alike, agreed, uneven}
 use Rattle.defines.proofs.redefine.same_tokens.Goals as goal
 
 pub returns-then-a-b : goal.returns-then-a-b
-returns-then-a-b c = sym (uneven c.args.a.now c.args.b.now c.if-a-b.true)
+returns-then-a-b c = agreed c.args.a.now c.args.b.now c.all.result c.if-a-b.true (cases_from_all c.all.new.self _ _ (λ p. alike p ≡ true) (λ p. alike p ≡ false) c.all.ensures.ran (YieldsList-from_zip (YieldsList-from_slice c.args.a.now (cc)) (YieldsList-from_slice c.args.b.now (cc))) (λ x q k. search (rules, tests)) (λ x q k. search (rules, tests)))
 
-pub returns-then-not-same_value : goal.returns-then-not-same_value
-returns-then-not-same_value c = differ c.args.a.now c.args.b.now c.loop-i.i c.loop-i.invariant _ _ c.loop-i-test.true (omega arith) (sym c.if-not-same_value.ensures)
-
-pub loop-i-preserved : goal.loop-i-preserved
-loop-i-preserved c = equal_so_far c.args.a.now c.args.b.now c.loop-i.i c.loop-i.invariant _ _ c.loop-i-test.true (omega arith) (sym c.if-not-same_value.ensures)
-
-pub returns : goal.returns
-returns c = equal_all c.args.a.now c.args.b.now c.loop-i.i c.loop-i.invariant c.loop-i-test.false (omega arith)
+pub returns-else-a-b : goal.returns-else-a-b
+returns-else-a-b c = search (rules, c.if-a-b.false) ∙ sym (uneven c.args.a.now c.args.b.now c.if-a-b.false)

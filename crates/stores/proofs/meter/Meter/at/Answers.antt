@@ -1,6 +1,6 @@
 use Rattle.std.proofs.Common.{ap, ◌∙◌}
 use Rattle.std.specs.List.{slice_get}
-use Rattle.stores.proofs.Laws.{lent_at}
+use Rattle.stores.specs.Lent.{lent_at}
 use Rattle.stores.proofs.meter.Meter.at.Goals as goal
 
 pub returns : goal.returns
