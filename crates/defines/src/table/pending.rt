@@ -1,5 +1,6 @@
 // The tokens of the directive that is being read lie past the mark.
-ghost use Rattle.std.specs.Prelude.{◌≡◌, ◌+◌, ◌-◌, ◌<◌, false, ltb, [], ◌∷◌, ◌++◌, map, length, drop, is_some, IfOk, if◌then◌else◌, vec_len, nat_lt};
+ghost use Rattle.std.specs.Prelude.{◌≡◌, ◌+◌, ◌-◌, ◌<◌, false, ltb, [], ◌∷◌, ◌++◌, map, length, drop, is_ok, is_some, IfOk, IfErr, if◌then◌else◌, vec_len, nat_lt};
+ghost use Rattle.tokens.specs.declared.fault.PreprocessorError.TheVariants.{KeptTokensFull, TooManyParameters};
 ghost use Rattle.stores.specs.Places.{place};
 ghost use Rattle.stores.specs.Idents.{ident_of};
 ghost use Rattle.books.specs.Book.{mean};
@@ -14,6 +15,7 @@ use crate::redefine::same_tokens;
 use books::Handle;
 use std::alloc::{AllocError, Global};
 use stores::records;
+use tokens::fault::PreprocessorError;
 use tokens::token::{Part, Token};
 
 // At most this many tokens are kept.
@@ -36,8 +38,8 @@ impl Defines {
         })
     }
 
-    // Nothing is read yet of the next directive.
-    pub fn begin(&mut self)
+    // What was read of a directive is given back.
+    pub fn give_back(&mut self)
         ensures defs { held self.new ≡ held self.old }
         ensures kept { self.new.kept.items ≡ settled self.old }
         ensures mark { self.new.mark ≡ self.old.mark }
@@ -47,46 +49,37 @@ impl Defines {
         self.body = self.mark;
     }
 
-    // What was read of a directive is given back.
-    pub fn give_back(&mut self)
-        ensures defs { held self.new ≡ held self.old }
-        ensures kept { self.new.kept.items ≡ settled self.old }
-        ensures mark { self.new.mark ≡ self.old.mark }
-        ensures body { self.new.body ≡ self.old.mark }
-    {
-        self.begin();
-    }
-
     // One more token of a body or of a passed directive, unless the store is full.
-    pub fn keep(&mut self, x: Token) -> bool
-        ensures value { result ≡ nat_lt (vec_len self.old.kept) 2048 }
+    pub fn keep(&mut self, x: Token) -> Result<(), PreprocessorError>
+        ensures value { is_ok result ≡ nat_lt (vec_len self.old.kept) 2048 }
+        ensures refused { IfErr result (λ e. e ≡ KeptTokensFull) }
         ensures defs { held self.new ≡ held self.old }
-        ensures kept { self.new.kept.items ≡ (if result then self.old.kept.items ++ x ∷ [] else self.old.kept.items) }
+        ensures kept { self.new.kept.items ≡ (if is_ok result then self.old.kept.items ++ x ∷ [] else self.old.kept.items) }
         ensures mark { self.new.mark ≡ self.old.mark }
         ensures body { self.new.body ≡ self.old.body }
     {
         if self.kept.len() >= MAX_KEPT {
-            return false;
+            return Err(PreprocessorError::KeptTokensFull);
         }
         self.kept.push_reserved(x);
-        true
+        Ok(())
     }
 
-    // One more parameter, unless the store is full or 32 tokens are there. All that lies past the mark are then parameters.
-    pub fn keep_parameter(&mut self, x: Token) -> bool
-        ensures value { result ≡ (if ltb (vec_len self.old.kept) 2048 then nat_lt (vec_len self.old.kept - self.old.mark) 32 else false) }
+    // One more parameter, unless 32 tokens are there or the store is full. All that lies past the mark are then parameters.
+    pub fn keep_parameter(&mut self, x: Token) -> Result<(), PreprocessorError>
+        ensures value { is_ok result ≡ (if ltb (vec_len self.old.kept) 2048 then nat_lt (vec_len self.old.kept - self.old.mark) 32 else false) }
+        ensures refused { IfErr result (λ e. e ≡ (if nat_lt (vec_len self.old.kept - self.old.mark) 32 then KeptTokensFull else TooManyParameters)) }
         ensures defs { held self.new ≡ held self.old }
-        ensures kept { self.new.kept.items ≡ (if result then self.old.kept.items ++ x ∷ [] else self.old.kept.items) }
+        ensures kept { self.new.kept.items ≡ (if is_ok result then self.old.kept.items ++ x ∷ [] else self.old.kept.items) }
         ensures mark { self.new.mark ≡ self.old.mark }
-        ensures body { self.new.body ≡ (if result then vec_len self.new.kept else self.old.body) }
+        ensures body { self.new.body ≡ (if is_ok result then vec_len self.new.kept else self.old.body) }
     {
-        let len = self.kept.len();
-        if len >= MAX_KEPT || len - self.mark >= MAX_PARAMETERS {
-            return false;
+        if self.kept.len() - self.mark >= MAX_PARAMETERS {
+            return Err(PreprocessorError::TooManyParameters);
         }
-        self.kept.push_reserved(x);
-        self.body = len + 1;
-        true
+        self.keep(x)?;
+        self.body = self.kept.len();
+        Ok(())
     }
 
     pub fn pending_parameters(&self) -> usize

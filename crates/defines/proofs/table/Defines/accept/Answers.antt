@@ -19,6 +19,7 @@ returns-then-len-ge-MAX_DEFINES c =
     let end : s.mark ≡ vec_len z.kept = omega (arith, ap length told.kept, length-take s.mark (vec_items s.kept), z.kept.ok.0, s.kept.ok.0, s.ordered, s.inside) in
     record {
       value = sym (le-ltb _ 512 full);
+      refused = refl;
       defs = told.defs;
       handles = grown_is (held s) _ (held s) told.defs (grown_same (held s));
       names = subst (Kept (held s)) (sym told.defs) (λ n y. y);
@@ -59,6 +60,7 @@ returns c =
     let len : vec_len z.kept ≡ vec_len u.kept = omega (arith, ap length put.kept, z.kept.ok.0, u.kept.ok.0) in
     record {
       value = sym (lt-ltb _ 512 room);
+      refused = tt;
       defs = defs;
       handles = grown_is (held s) _ (accepted (held s) e) defs (grown_accepted (held s) e refl);
       names = subst (Kept (held s)) (sym defs) (kept_accepted (held s) e refl);

@@ -9,6 +9,7 @@ returns c =
     let s = c.args.self.now in
     record {
       value = search rules;
+      refused = tt;
       defs = same_pushed (vec_items s.kept) s.mark (vec_items s.table) c.args.x _ s.within (omega (arith, s.ordered, s.inside, s.kept.ok.0)) c.push_reserved.ensures.items;
       kept = c.push_reserved.ensures.items;
       mark = refl;

@@ -1,7 +1,7 @@
 use Rattle.std.proofs.Common.{vec_items, refl}
 use Rattle.defines.proofs.Fronts.{same_cut}
 use Rattle.defines.specs.Held.{held}
-use Rattle.defines.proofs.table.Defines.begin.Goals as goal
+use Rattle.defines.proofs.table.Defines.give_back.Goals as goal
 
 pub returns : goal.returns
 unfolding held
