@@ -4,15 +4,15 @@ use Rattle.std.specs.Str.{bytes_eq}
 use Rattle.std.proofs.lemmas.List.{append-nil, append_assoc, get_or_append_left, get_or_push, length_push, length-append, length-drop, get_or-map, at_drop_more, at_drop_all, map-append, drop-append-le, take-append-le, drop_at, take_all}
 use Rattle.std.proofs.lemmas.Bool.{cases_lt}
 use Rattle.std.proofs.lemmas.Slice.Eq.{bytes_eq-Decides}
-use Rattle.names.specs.declared.span.Span.{Span}
+use Rattle.tokens.specs.declared.token.Part.{Part}
 use Rattle.names.specs.Spans.{spanned, listed, Within, joint, Distinct}
 use Rattle.names.specs.Interning.{seek}
 
 -- a span that was read from the list ends within the bytes
-pub ends_within : (bs : List ℕ) (ss : List Span) (i : ℕ) (s : Span) → Within bs ss → i < length ss → s ≡ get_or ss i s → s.start + s.len ≤ length bs
-ends_within bs ss i s w h e = subst (λ (x : Span). x.start + x.len ≤ length bs) (sym e) (w i s h)
+pub ends_within : (bs : List ℕ) (ss : List Part) (i : ℕ) (s : Part) → Within bs ss → i < length ss → s ≡ get_or ss i s → s.start + s.len ≤ length bs
+ends_within bs ss i s w h e = subst (λ (x : Part). x.start + x.len ≤ length bs) (sym e) (w i s h)
 
-pub is_name : (bs : List ℕ) (ss : List Span) (i : ℕ) (s : Span) → i < length ss → s ≡ get_or ss i s → spanned bs s ≡ get_or (listed bs ss) i []
+pub is_name : (bs : List ℕ) (ss : List Part) (i : ℕ) (s : Part) → i < length ss → s ≡ get_or ss i s → spanned bs s ≡ get_or (listed bs ss) i []
 is_name bs ss i s h e = ap (spanned bs) e ∙ sym (get_or-map (spanned bs) ss i s [] h)
 
 same_test : (a b : List ℕ) → a ≡ b → bytes_eq a b ≡ true
@@ -49,29 +49,29 @@ absent i [] b e k h = absurd (omega arith)
 absent i (n ∷ ns) b e zero h = λ same. let t = same_test n b same in let z : Some i ≡ None = ap (λ t. cond t (Some i) (seek (i + 1) ns b)) (sym t) ∙ e in grind arith
 absent i (n ∷ ns) b e (suc k) h = absent (i + 1) ns b (missed (bytes_eq n b) (seek (i + 1) ns b) i e) k (omega arith)
 
-pub within_push : (bs b : List ℕ) (ss : List Span) (s : Span) → Within bs ss → s.start + s.len ≤ length bs + length b → Within (bs ++ b) (ss ++ s ∷ [])
+pub within_push : (bs b : List ℕ) (ss : List Part) (s : Part) → Within bs ss → s.start + s.len ≤ length bs + length b → Within (bs ++ b) (ss ++ s ∷ [])
 within_push bs b ss s w h k d lt =
     let n : length (bs ++ b) ≡ length bs + length b = length-append bs b in
     let m : length (ss ++ s ∷ []) ≡ length ss + 1 = length_push ss s in
     ⊎_elim
-    (λ old. subst (λ (x : Span). x.start + x.len ≤ length (bs ++ b)) (sym (get_or_append_left ss (s ∷ []) d k old)) (omega (arith, w k d old)))
-    (λ new. let at : length ss ≡ k = omega arith in subst (λ (x : Span). x.start + x.len ≤ length (bs ++ b)) (sym (get_or_push ss s d k at)) (omega arith))
+    (λ old. subst (λ (x : Part). x.start + x.len ≤ length (bs ++ b)) (sym (get_or_append_left ss (s ∷ []) d k old)) (omega (arith, w k d old)))
+    (λ new. let at : length ss ≡ k = omega arith in subst (λ (x : Part). x.start + x.len ≤ length (bs ++ b)) (sym (get_or_push ss s d k at)) (omega arith))
     (cases_lt k (length ss))
 
-stable : (bs b : List ℕ) (s : Span) → s.start + s.len ≤ length bs → spanned (bs ++ b) s ≡ spanned bs s
+stable : (bs b : List ℕ) (s : Part) → s.start + s.len ≤ length bs → spanned (bs ++ b) s ≡ spanned bs s
 stable bs b s h =
     let cut : drop s.start (bs ++ b) ≡ drop s.start bs ++ b = drop-append-le s.start bs b (omega arith) in
     let room : s.len ≤ length (drop s.start bs) = simp length-drop (omega arith) in
     ap (take s.len) cut ∙ take-append-le s.len (drop s.start bs) b room
 
-pub listed_stable : (bs b : List ℕ) (ss : List Span) → Within bs ss → listed (bs ++ b) ss ≡ listed bs ss
+pub listed_stable : (bs b : List ℕ) (ss : List Part) → Within bs ss → listed (bs ++ b) ss ≡ listed bs ss
 listed_stable bs b [] w = refl
 listed_stable bs b (s ∷ ss) w =
     let one = stable bs b s (w 0 s (omega arith)) in
     let rest = listed_stable bs b ss (λ k d h. w (suc k) d (omega arith)) in
     cc
 
-pub listed_push : (bs b : List ℕ) (ss : List Span) (s : Span) → Within bs ss → s.start ≡ length bs → s.len ≡ length b → listed (bs ++ b) (ss ++ s ∷ []) ≡ listed bs ss ++ b ∷ []
+pub listed_push : (bs b : List ℕ) (ss : List Part) (s : Part) → Within bs ss → s.start ≡ length bs → s.len ≡ length b → listed (bs ++ b) (ss ++ s ∷ []) ≡ listed bs ss ++ b ∷ []
 listed_push bs b ss s w e f =
     let cut : drop s.start (bs ++ b) ≡ b = drop_at bs b s.start (sym e) in
     let new : spanned (bs ++ b) s ≡ b = ap (take s.len) cut ∙ take_all s.len b (omega arith) in

@@ -6,9 +6,9 @@ ghost use Rattle.names.specs.Table.{names, fixed};
 
 use super::Names;
 use crate::compare::same_name;
-use crate::span::Span;
 use std::alloc::Global;
 use tokens::fault::Refusal;
+use tokens::token::Part;
 
 const NAME_LEN: usize = 1024;
 
@@ -75,7 +75,7 @@ impl Names {
         let start = self.bytes.len();
         let len = bytes.len();
         let _ = self.bytes.extend_from_slice(bytes);
-        self.spans.push_reserved(Span { start, len });
+        self.spans.push_reserved(Part { start, len });
     }
 
     // The number of the name with these bytes, entered now if it is new.
@@ -112,12 +112,8 @@ impl Names {
     fn empty(heap: Global) -> Result<Names, Refusal>
         ensures { MatchResult result (λ t. names t ≡ []) (λ e. e ≡ Refusal.Memory) }
     {
-        let Ok(bytes) = Vec::with_capacity(heap, ALL_BYTES) else {
-            return Err(Refusal::Memory);
-        };
-        let Ok(spans) = Vec::with_capacity(heap, ALL_NAMES) else {
-            return Err(Refusal::Memory);
-        };
+        let bytes = Vec::with_capacity(heap, ALL_BYTES)?;
+        let spans = Vec::with_capacity(heap, ALL_NAMES)?;
         Ok(Names { bytes, spans })
     }
 

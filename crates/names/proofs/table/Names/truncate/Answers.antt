@@ -1,7 +1,7 @@
 -- The first names alone keep the table in order.
 use Rattle.std.proofs.Common.{◌≡◌, ℕ, ◌<◌, List, length, get_or, take, vec_items, sym, ap, ◌∙◌, subst, arith}
 use Rattle.std.proofs.lemmas.List.{take_all}
-use Rattle.names.specs.declared.span.Span.{Span}
+use Rattle.tokens.specs.declared.token.Part.{Part}
 use Rattle.names.specs.Spans.{listed, joint, Within, Placed, Distinct}
 use Rattle.names.specs.Table.{names}
 use Rattle.names.proofs.Sizes.{count}
@@ -13,7 +13,7 @@ at : (c : After-truncate-then-count-len) → c.args.count < length (vec_items c.
 at c = omega (arith, c.if-count-len.true, c.len.ensures, c.args.self.now.spans.ok.0)
 
 start : (c : After-truncate-then-count-len) → c.index.result.now.start ≡ (get_or (vec_items c.args.self.now.spans) c.args.count c.index.result.now).start
-start c = ap (λ (s : Span). s.start) c.index.ensures
+start c = ap (λ (s : Part). s.start) c.index.ensures
 
 bytes_now : (c : After-truncate-then-count-len) → vec_items c.truncate.new.self ≡ take (get_or (vec_items c.args.self.now.spans) c.args.count c.index.result.now).start (vec_items c.args.self.now.bytes)
 bytes_now c = c.truncate.ensures.items ∙ ap (λ m. take m (vec_items c.args.self.now.bytes)) (start c)
@@ -35,9 +35,9 @@ invariant_of-self c =
       short = omega (arith, c.truncate.ensures.len, t.short);
       roomy = omega (arith, c.truncate.ensures.capacity, t.roomy);
       wide = omega (arith, c.truncate-then-count-len.ensures.capacity, t.wide);
-      within = subst (λ (x : List ℕ). Within x (vec_items c.truncate-then-count-len.new.self)) (sym p) (subst (λ (x : List Span). Within (take (get_or (vec_items t.spans) c.args.count c.index.result.now).start (vec_items t.bytes)) x) (sym q) (within_cut _ _ _ _ t.within t.placed (at c)));
+      within = subst (λ (x : List ℕ). Within x (vec_items c.truncate-then-count-len.new.self)) (sym p) (subst (λ (x : List Part). Within (take (get_or (vec_items t.spans) c.args.count c.index.result.now).start (vec_items t.bytes)) x) (sym q) (within_cut _ _ _ _ t.within t.placed (at c)));
       joined = ap joint l ∙ joined_cut _ _ _ _ t.within t.placed (at c) t.joined ∙ sym p;
-      placed = subst (λ (x : List (List ℕ)). Placed x (vec_items c.truncate-then-count-len.new.self)) (sym l) (subst (λ (x : List Span). Placed (take c.args.count (names t)) x) (sym q) (placed_cut _ _ _ c.index.result.now t.within t.placed (at c)));
+      placed = subst (λ (x : List (List ℕ)). Placed x (vec_items c.truncate-then-count-len.new.self)) (sym l) (subst (λ (x : List Part). Placed (take c.args.count (names t)) x) (sym q) (placed_cut _ _ _ c.index.result.now t.within t.placed (at c)));
       distinct = subst Distinct (sym l) (distinct_cut _ c.args.count t.distinct);
     }
 
