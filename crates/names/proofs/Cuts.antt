@@ -2,7 +2,7 @@
 use Rattle.std.proofs.Common.{◌≡◌, ℕ, ◌+◌, ◌<◌, ◌≤◌, min, List, [], ◌∷◌, ◌++◌, length, get_or, take, drop, sym, refl, ap, ◌∙◌, subst, ⊎_elim, arith}
 use Rattle.std.proofs.lemmas.List.{append_assoc, get_or_append_left, get_or_push, length_push, length-append, length-drop, length-take, length-take-le, length-map, get_or-map, get_or-take, take_more, take_all, take_at, take-take, take-map, take-append-le, take-append-drop}
 use Rattle.std.proofs.lemmas.Bool.{cases_lt}
-use Rattle.names.specs.declared.span.Span.{Span}
+use Rattle.tokens.specs.declared.token.Part.{Part}
 use Rattle.names.specs.Spans.{spanned, listed, joint, Within, Placed, Distinct}
 use Rattle.names.proofs.Tables.{joint_push, listed_stable}
 
@@ -19,16 +19,16 @@ joint_le ns j k h =
     let n : length (joint (take k ns)) ≡ length (joint (take j ns)) + length (joint (drop j (take k ns))) = ap length e ∙ length-append (joint (take j ns)) (joint (drop j (take k ns))) in
     omega arith
 
-pub placed_push : (ns : List (List ℕ)) (b : List ℕ) (ss : List Span) (s : Span) → length ns ≡ length ss → Placed ns ss → s.start ≡ length (joint ns) → Placed (ns ++ b ∷ []) (ss ++ s ∷ [])
+pub placed_push : (ns : List (List ℕ)) (b : List ℕ) (ss : List Part) (s : Part) → length ns ≡ length ss → Placed ns ss → s.start ≡ length (joint ns) → Placed (ns ++ b ∷ []) (ss ++ s ∷ [])
 placed_push ns b ss s e p f k d lt =
     let m : length (ss ++ s ∷ []) ≡ length ss + 1 = length_push ss s in
     let front : take k (ns ++ b ∷ []) ≡ take k ns = take-append-le k ns (b ∷ []) (omega arith) in
     ⊎_elim
-    (λ old. ap (λ (x : Span). x.start) (get_or_append_left ss (s ∷ []) d k old) ∙ p k d old ∙ ap (λ l. length (joint l)) (sym front))
-    (λ new. let at : length ss ≡ k = omega arith in ap (λ (x : Span). x.start) (get_or_push ss s d k at) ∙ f ∙ ap (λ l. length (joint l)) (sym (front ∙ take_all k ns (omega arith))))
+    (λ old. ap (λ (x : Part). x.start) (get_or_append_left ss (s ∷ []) d k old) ∙ p k d old ∙ ap (λ l. length (joint l)) (sym front))
+    (λ new. let at : length ss ≡ k = omega arith in ap (λ (x : Part). x.start) (get_or_push ss s d k at) ∙ f ∙ ap (λ l. length (joint l)) (sym (front ∙ take_all k ns (omega arith))))
     (cases_lt k (length ss))
 
-long : (bs : List ℕ) (ss : List Span) (k : ℕ) (d : Span) → Within bs ss → k < length ss → length (get_or (listed bs ss) k []) ≡ (get_or ss k d).len
+long : (bs : List ℕ) (ss : List Part) (k : ℕ) (d : Part) → Within bs ss → k < length ss → length (get_or (listed bs ss) k []) ≡ (get_or ss k d).len
 long bs ss k d w h =
     let s = get_or ss k d in
     let e : get_or (listed bs ss) k [] ≡ spanned bs s = get_or-map (spanned bs) ss k d [] h in
@@ -36,7 +36,7 @@ long bs ss k d w h =
     ap length e ∙ length-take-le s.len (drop s.start bs) (simp length-drop (omega arith))
 
 -- a name before place n ends where name n begins, or before
-before : (bs : List ℕ) (ss : List Span) (k n : ℕ) (d : Span) → Within bs ss → Placed (listed bs ss) ss → k < n → n < length ss → (get_or ss k d).start + (get_or ss k d).len ≤ (get_or ss n d).start
+before : (bs : List ℕ) (ss : List Part) (k n : ℕ) (d : Part) → Within bs ss → Placed (listed bs ss) ss → k < n → n < length ss → (get_or ss k d).start + (get_or ss k d).len ≤ (get_or ss n d).start
 before bs ss k n d w p h l =
     let ns = listed bs ss in
     let size : length ns ≡ length ss = length-map ss (spanned bs) in
@@ -47,7 +47,7 @@ before bs ss k n d w p h l =
     let u = joint_le ns (k + 1) n (omega arith) in
     omega arith
 
-module _ (bs : List ℕ) (ss : List Span) (n : ℕ) (d : Span) (w : Within bs ss) (p : Placed (listed bs ss) ss) (l : n < length ss) where
+module _ (bs : List ℕ) (ss : List Part) (n : ℕ) (d : Part) (w : Within bs ss) (p : Placed (listed bs ss) ss) (l : n < length ss) where
   pub within_cut : Within (take (get_or ss n d).start bs) (take n ss)
   within_cut k e h =
       let st = (get_or ss n d).start in
@@ -57,7 +57,7 @@ module _ (bs : List ℕ) (ss : List Span) (n : ℕ) (d : Span) (w : Within bs ss
       let b = before bs ss k n e w p (omega arith) l in
       let r = w n d l in
       let t : length (take st bs) ≡ st = length-take-le st bs (omega arith) in
-      subst (λ (x : Span). x.start + x.len ≤ length (take st bs)) (sym at) (omega arith)
+      subst (λ (x : Part). x.start + x.len ≤ length (take st bs)) (sym at) (omega arith)
 
   pub listed_cut : listed (take (get_or ss n d).start bs) (take n ss) ≡ take n (listed bs ss)
   listed_cut =
@@ -74,7 +74,7 @@ module _ (bs : List ℕ) (ss : List Span) (n : ℕ) (d : Span) (w : Within bs ss
   pub placed_cut : Placed (take n (listed bs ss)) (take n ss)
   placed_cut k e h =
       let m : length (take n ss) ≡ n = length-take-le n ss (omega arith) in
-      ap (λ (x : Span). x.start) (get_or-take n ss k e (omega arith)) ∙ p k e (omega arith) ∙ ap (λ x. length (joint x)) (sym (take-take k n (listed bs ss) (omega arith)))
+      ap (λ (x : Part). x.start) (get_or-take n ss k e (omega arith)) ∙ p k e (omega arith) ∙ ap (λ x. length (joint x)) (sym (take-take k n (listed bs ss) (omega arith)))
 
 pub distinct_cut : (ns : List (List ℕ)) (n : ℕ) → Distinct ns → Distinct (take n ns)
 distinct_cut ns n d i j h =

@@ -4,3 +4,4 @@ pub mod Cuts
 pub mod Sizes
 pub mod Numbers
 pub mod Growth
+pub mod Words

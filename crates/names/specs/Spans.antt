@@ -2,23 +2,23 @@
 -- spanned bs s: the bytes of one name; listed bs ss: all names in their order; joint ns: their bytes one after another
 -- Within bs ss: each span ends within the bytes; Placed ns ss: each name begins where those before it end; Distinct ns: no two names are alike
 use Rattle.std.specs.Prelude.{◌≡◌, ℕ, ◌+◌, ◌<◌, ◌≤◌, List, [], ◌∷◌, ◌++◌, map, length, get_or, take, drop, slice_index_or}
-use Rattle.names.specs.declared.span.Span.{Span}
+use Rattle.tokens.specs.declared.token.Part.{Part}
 
-abbrev pub spanned : List ℕ → Span → List ℕ
+abbrev pub spanned : List ℕ → Part → List ℕ
 spanned bs s = take s.len (drop s.start bs)
 
-abbrev pub listed : List ℕ → List Span → List (List ℕ)
+abbrev pub listed : List ℕ → List Part → List (List ℕ)
 listed bs ss = map (spanned bs) ss
 
 abbrev pub joint : List (List ℕ) → List ℕ
 joint [] = []
 joint (n ∷ ns) = n ++ joint ns
 
-abbrev pub Within : List ℕ → List Span → Type 0
-Within bs ss = (k : ℕ) (d : Span) → k < length ss → (get_or ss k d).start + (get_or ss k d).len ≤ length bs
+abbrev pub Within : List ℕ → List Part → Type 0
+Within bs ss = (k : ℕ) (d : Part) → k < length ss → (get_or ss k d).start + (get_or ss k d).len ≤ length bs
 
-abbrev pub Placed : List (List ℕ) → List Span → Type 0
-Placed ns ss = (k : ℕ) (d : Span) → k < length ss → (get_or ss k d).start ≡ length (joint (take k ns))
+abbrev pub Placed : List (List ℕ) → List Part → Type 0
+Placed ns ss = (k : ℕ) (d : Part) → k < length ss → (get_or ss k d).start ≡ length (joint (take k ns))
 
 abbrev pub Distinct : List (List ℕ) → Type 0
 Distinct ns = (i j : ℕ) → (i < length ns) × (j < length ns) × (slice_index_or ns i [] ≡ slice_index_or ns j []) → i ≡ j

@@ -16,7 +16,7 @@ pub struct Float {
     pub width: u16,
 }
 
-// Neighbouring tokens of a store: the first, and how many.
+// Neighbouring items of a store: the first, and how many.
 #[derive(Clone, Copy)]
 pub struct Part {
     pub start: usize,

@@ -1,20 +1,38 @@
 // Entering names, finding them, reading them back, and forgetting the latest.
-ghost use Rattle.std.specs.Prelude.{◌≡◌, ◌+◌, ◌<◌, ◌≤◌, [], ◌∷◌, ◌++◌, length, take, None, MatchOption, MatchResult, slice_index_or};
-ghost use Rattle.names.specs.Spans.{joint};
+ghost use Rattle.std.specs.Prelude.{◌≡◌, ◌+◌, ◌<◌, ◌≤◌, [], ◌∷◌, ◌++◌, map, fold, length, take, None, MatchOption, MatchResult, slice_index_or};
+ghost use Rattle.names.specs.Spans.{spanned, joint};
 ghost use Rattle.names.specs.Interning.{seek, answer, after};
 ghost use Rattle.names.specs.Table.{names, fixed};
 
 use super::Names;
 use crate::compare::same_name;
-use crate::span::Span;
 use std::alloc::Global;
 use tokens::fault::Refusal;
+use tokens::token::Part;
 
 const NAME_LEN: usize = 1024;
 
 const ALL_NAMES: usize = 1024;
 
 const ALL_BYTES: usize = 16384;
+
+const FIXED: [&[u8]; 15] = [
+    b"error",
+    b"line",
+    b"define",
+    b"undef",
+    b"if",
+    b"ifdef",
+    b"ifndef",
+    b"elif",
+    b"else",
+    b"endif",
+    b"version",
+    b"extension",
+    b"pragma",
+    b"defined",
+    b"__LINE__",
+];
 
 impl Names {
     // How many names there are.
@@ -31,38 +49,31 @@ impl Names {
         self.bytes.len()
     }
 
-    fn bytes_at(&self, i: usize) -> &[u8]
-        requires { i < length (names self.now) }
-        ensures { result.now ≡ slice_index_or (names self.now) i [] }
+    // The bytes of a part of all the bytes.
+    fn spanned(&self, part: Part) -> &[u8]
+        requires { part.start + part.len ≤ length self.now.bytes.items }
+        ensures { result.now ≡ spanned self.now.bytes.items part }
     {
-        let s = self.spans[i];
-        let from = s.start;
-        let to = from + s.len;
-        &self.bytes[from..to]
+        &self.bytes[part.start..][..part.len]
     }
 
     // The bytes of a name by its number, none for an unknown number.
     pub fn bytes_of(&self, n: u32) -> Option<&[u8]>
         ensures { MatchOption result (length (names self.now) ≤ n) (λ b. (n < length (names self.now)) × (b.now ≡ slice_index_or (names self.now) n [])) }
     {
-        let i = n as usize;
-        if i < self.count() {
-            Some(self.bytes_at(i))
-        } else {
-            None
-        }
+        let part = self.spans.get(n as usize)?;
+        Some(self.spanned(*part))
     }
 
     // The number of the name with these bytes.
     pub fn find(&self, bytes: &[u8]) -> Option<u32>
         ensures { result ≡ seek 0 (names self.now) bytes.now }
     {
-        for i in 0..self.spans.len() {
-            if same_name(self.bytes_at(i), bytes) {
-                return Some(i as u32);
-            }
-        }
-        None
+        let place = self
+            .spans
+            .iter()
+            .position(|part| same_name(self.spanned(*part), bytes))?;
+        Some(place as u32)
     }
 
     // One more name at the end.
@@ -75,7 +86,7 @@ impl Names {
         let start = self.bytes.len();
         let len = bytes.len();
         let _ = self.bytes.extend_from_slice(bytes);
-        self.spans.push_reserved(Span { start, len });
+        self.spans.push_reserved(Part { start, len });
     }
 
     // The number of the name with these bytes, entered now if it is new.
@@ -83,7 +94,7 @@ impl Names {
         ensures value { result ≡ answer (names self.old) bytes.now }
         ensures after { names self.new ≡ after (names self.old) bytes.now }
     {
-        if bytes.len() == 0 || bytes.len() > NAME_LEN {
+        if bytes.is_empty() || bytes.len() > NAME_LEN {
             return Err(Refusal::NameLength);
         }
         if let Some(n) = self.find(bytes) {
@@ -101,8 +112,8 @@ impl Names {
     pub fn truncate(&mut self, count: usize)
         ensures { names self.new ≡ take count (names self.old) }
     {
-        if count < self.spans.len() {
-            let size = self.spans[count].start;
+        if let Some(first) = self.spans.get(count) {
+            let size = first.start;
             self.bytes.truncate(size);
             self.spans.truncate(count);
         }
@@ -112,12 +123,8 @@ impl Names {
     fn empty(heap: Global) -> Result<Names, Refusal>
         ensures { MatchResult result (λ t. names t ≡ []) (λ e. e ≡ Refusal.Memory) }
     {
-        let Ok(bytes) = Vec::with_capacity(heap, ALL_BYTES) else {
-            return Err(Refusal::Memory);
-        };
-        let Ok(spans) = Vec::with_capacity(heap, ALL_NAMES) else {
-            return Err(Refusal::Memory);
-        };
+        let bytes = Vec::with_capacity(heap, ALL_BYTES)?;
+        let spans = Vec::with_capacity(heap, ALL_NAMES)?;
         Ok(Names { bytes, spans })
     }
 
@@ -134,20 +141,15 @@ impl Names {
         requires { names self.old ≡ [] }
         ensures { names self.new ≡ fixed }
     {
-        let _ = self.intern(b"error");
-        let _ = self.intern(b"line");
-        let _ = self.intern(b"define");
-        let _ = self.intern(b"undef");
-        let _ = self.intern(b"if");
-        let _ = self.intern(b"ifdef");
-        let _ = self.intern(b"ifndef");
-        let _ = self.intern(b"elif");
-        let _ = self.intern(b"else");
-        let _ = self.intern(b"endif");
-        let _ = self.intern(b"version");
-        let _ = self.intern(b"extension");
-        let _ = self.intern(b"pragma");
-        let _ = self.intern(b"defined");
-        let _ = self.intern(b"__LINE__");
+        self.enter_all(&FIXED);
+    }
+
+    // Names one after another, without those that are refused.
+    fn enter_all(&mut self, words: &[&[u8]])
+        ensures { names self.new ≡ fold after (names self.old) (map (λ w. w.now) words.now) }
+    {
+        for word in words {
+            let _ = self.intern(word);
+        }
     }
 }

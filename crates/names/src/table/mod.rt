@@ -2,7 +2,7 @@
 ghost use Rattle.std.specs.Prelude.{◌≡◌, ◌≤◌, vec_len, vec_capacity};
 ghost use Rattle.names.specs.Spans.{Within, Placed, listed, joint, Distinct};
 
-use crate::span::Span;
+use tokens::token::Part;
 
 pub mod methods;
 
@@ -11,7 +11,7 @@ pub mod methods;
 #[derive(Drop)]
 pub struct Names {
     bytes: Vec<u8>,
-    spans: Vec<Span>,
+    spans: Vec<Part>,
     ghost few: { vec_len spans ≤ 1024 },
     ghost short: { vec_len bytes ≤ 16384 },
     ghost roomy: { 16384 ≤ vec_capacity bytes },

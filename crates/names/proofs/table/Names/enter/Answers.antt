@@ -2,7 +2,7 @@
 use Rattle.std.proofs.Common.{◌≡◌, ℕ, ◌+◌, ◌<◌, ◌≤◌, true, List, [], ◌∷◌, ◌++◌, length, is_ok, vec_items, vec_len, sym, refl, ap, ◌∙◌, subst, arith}
 use Rattle.std.proofs.ResultArms.{chosen}
 use Rattle.std.proofs.lemmas.List.{length-map}
-use Rattle.names.specs.declared.span.Span.{Span}
+use Rattle.tokens.specs.declared.token.Part.{Part}
 use Rattle.names.specs.Spans.{spanned, listed, joint, Within, Placed, Distinct}
 use Rattle.names.proofs.Tables.{within_push, listed_push, joint_push, distinct_push, absent}
 use Rattle.names.proofs.Cuts.{placed_push}
@@ -41,9 +41,9 @@ invariant_of-self c =
       short = omega (arith, short_bytes c, n);
       roomy = omega (arith, c.extend_from_slice.ensures.capacity, c.args.self.now.roomy);
       wide = omega (arith, c.push_reserved.ensures.capacity, c.args.self.now.wide);
-      within = subst (λ (x : List ℕ). Within x (vec_items c.push_reserved.new.self)) (sym p) (subst (λ (x : List Span). Within (vec_items c.args.self.now.bytes ++ c.args.bytes.now) x) (sym q) (within_push _ _ _ _ c.args.self.now.within (omega (arith, c.len-start.ensures, c.args.self.now.bytes.ok.0))));
+      within = subst (λ (x : List ℕ). Within x (vec_items c.push_reserved.new.self)) (sym p) (subst (λ (x : List Part). Within (vec_items c.args.self.now.bytes ++ c.args.bytes.now) x) (sym q) (within_push _ _ _ _ c.args.self.now.within (omega (arith, c.len-start.ensures, c.args.self.now.bytes.ok.0))));
       joined = ap joint l ∙ joint_push (listed (vec_items c.args.self.now.bytes) (vec_items c.args.self.now.spans)) c.args.bytes.now ∙ ap (λ x. x ++ c.args.bytes.now) c.args.self.now.joined ∙ sym p;
-      placed = subst (λ (x : List (List ℕ)). Placed x (vec_items c.push_reserved.new.self)) (sym l) (subst (λ (x : List Span). Placed (listed (vec_items c.args.self.now.bytes) (vec_items c.args.self.now.spans) ++ c.args.bytes.now ∷ []) x) (sym q) (placed_push _ _ _ _ (length-map (vec_items c.args.self.now.spans) (spanned (vec_items c.args.self.now.bytes))) c.args.self.now.placed (c.len-start.ensures ∙ c.args.self.now.bytes.ok.0 ∙ ap length (sym c.args.self.now.joined))));
+      placed = subst (λ (x : List (List ℕ)). Placed x (vec_items c.push_reserved.new.self)) (sym l) (subst (λ (x : List Part). Placed (listed (vec_items c.args.self.now.bytes) (vec_items c.args.self.now.spans) ++ c.args.bytes.now ∷ []) x) (sym q) (placed_push _ _ _ _ (length-map (vec_items c.args.self.now.spans) (spanned (vec_items c.args.self.now.bytes))) c.args.self.now.placed (c.len-start.ensures ∙ c.args.self.now.bytes.ok.0 ∙ ap length (sym c.args.self.now.joined))));
       distinct = subst Distinct (sym l) (distinct_push _ _ c.args.self.now.distinct (absent 0 _ _ c.requires.fresh));
     }
 

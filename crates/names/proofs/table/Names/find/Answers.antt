@@ -1,24 +1,20 @@
--- One comparison decides one place.
-use Rattle.std.proofs.Common.{◌≡◌, ◌<◌, ◌≤◌, true, false, length, sym, ◌∙◌, arith, rules}
-use Rattle.std.proofs.lemmas.List.{length-map}
+-- The first place is the one that a search by number answers.
+use Rattle.std.proofs.Common.{◌≡◌, ◌≢◌, vec_items, sym, ◌∙◌, rules}
+use Rattle.std.proofs.lemmas.Iterator.{YieldsList-from_slice, IsFirst-from_position}
+use borrow.Author.Tests.{tests}
+use Rattle.names.specs.Spans.{spanned}
+use Rattle.names.specs.Interning.{seek}
 use Rattle.names.specs.Table.{names}
-use Rattle.names.proofs.Tables.{seek_hit, seek_miss, seek_end}
+use Rattle.names.proofs.Tables.{sought}
 use Rattle.names.proofs.table.Names.find.Goals as goal
+use Rattle.names.proofs.table.Names.find.Goals.{After-branch-place}
 
-pub bytes_at-requires : goal.bytes_at-requires
-bytes_at-requires c = simp length-map (omega (arith, c.args.self.now.spans.ok.0, c.len-i-end.ensures))
+place : (c : After-branch-place) → c.position.result ≡ seek 0 (names c.args.self.now) c.args.bytes.now
+place c =
+    sought _ (vec_items c.args.self.now.spans) _ _ (IsFirst-from_position _ _ c.position.result (λ s. spanned (vec_items c.args.self.now.bytes) s ≡ c.args.bytes.now) (λ s. spanned (vec_items c.args.self.now.bytes) s ≢ c.args.bytes.now) c.position.ensures.ran (YieldsList-from_slice (vec_items c.args.self.now.spans) cc) (λ x q k. search (rules, tests)) (λ x q k. search (rules, tests)))
 
-pub returns-then-same_name : goal.returns-then-same_name
-returns-then-same_name c =
-    let h : c.loop-i.i < length (names c.args.self.now) = simp length-map (omega (arith, c.args.self.now.spans.ok.0, c.len-i-end.ensures)) in
-    sym (seek_hit _ _ _ h (sym c.bytes_at.ensures ∙ c.same_name.ensures.0 c.if-same_name.true)) ∙ c.loop-i.invariant
-
-pub loop-i-preserved : goal.loop-i-preserved
-loop-i-preserved c =
-    let h : c.loop-i.i < length (names c.args.self.now) = simp length-map (omega (arith, c.args.self.now.spans.ok.0, c.len-i-end.ensures)) in
-    sym (seek_miss _ _ _ h (λ e. let z : false ≡ true = sym c.if-same_name.false ∙ c.same_name.ensures.1 (c.bytes_at.ensures ∙ e) in search rules)) ∙ c.loop-i.invariant
+pub returns-in_err-place : goal.returns-in_err-place
+returns-in_err-place c = c.from_residual.ensures ∙ sym c.in_err-place.was ∙ place (goal.at.returns-in_err-place c).After-branch-place
 
 pub returns : goal.returns
-returns c =
-    let h : length (names c.args.self.now) ≤ c.loop-i.i = simp length-map (omega (arith, c.args.self.now.spans.ok.0, c.len-i-end.ensures)) in
-    sym (seek_end _ _ _ h) ∙ c.loop-i.invariant
+returns c = sym c.in_ok-place.was ∙ place (goal.at.returns c).After-branch-place
