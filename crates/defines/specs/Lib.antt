@@ -4,3 +4,4 @@ pub mod Changes
 pub mod Values
 pub mod Entries
 pub mod Sounds
+pub mod ReadingOn

@@ -1,24 +1,8 @@
 -- More is read past the same mark.
-use Rattle.std.proofs.Common.{◌≡◌, Bool, true, false, cond, [], ◌∷◌, ◌++◌, length, take, vec_items, vec_len, sym, refl, ap, ◌∙◌, arith}
-use Rattle.std.proofs.lemmas.List.{take-append-le, take_all, take-take, length-take}
-use Rattle.tokens.specs.declared.token.Token.{Token}
+use Rattle.std.proofs.Common.{◌≡◌, length, take, vec_items, vec_len, ap, ◌∙◌, arith}
+use Rattle.std.proofs.lemmas.List.{take_all, take-take, length-take}
 use Rattle.defines.specs.declared.table.Defines.{Defines}
 use Rattle.defines.specs.Held.{held, settled, ReadOn, Settled}
-
-pub read_none : (s : Defines) → ReadOn s s
-read_none s = record { defs = refl; mark = refl; kept = refl }
-
-pub read_then : (s t u : Defines) → ReadOn s t → ReadOn t u → ReadOn s u
-read_then s t u a b = record {
-  defs = b.defs ∙ a.defs;
-  mark = b.mark ∙ a.mark;
-  kept = ap (λ n. take n (vec_items u.kept)) (sym a.mark) ∙ b.kept ∙ ap (λ n. take n (vec_items t.kept)) a.mark ∙ a.kept;
-}
-
--- one token more, or none where there is no room
-pub read_more : (s t : Defines) (b : Bool) (x : Token) → held t ≡ held s → t.mark ≡ s.mark → vec_items t.kept ≡ cond b (vec_items s.kept ++ x ∷ []) (vec_items s.kept) → ReadOn s t
-read_more s t true x d m k = record { defs = d; mark = m; kept = ap (take s.mark) k ∙ take-append-le s.mark (vec_items s.kept) (x ∷ []) (omega (arith, s.ordered, s.inside, s.kept.ok.0)) }
-read_more s t false x d m k = record { defs = d; mark = m; kept = ap (take s.mark) k }
 
 -- what was read is given back
 pub settled_cut : (s t : Defines) → vec_items t.kept ≡ settled s → t.mark ≡ s.mark → Settled t

@@ -4,3 +4,4 @@ pub mod Tank
 pub mod Marks
 pub mod Idents
 pub mod Lent
+pub mod Growing

@@ -5,4 +5,5 @@ pub mod guard;
 pub mod meter;
 pub mod records;
 pub mod span;
+pub mod store;
 pub mod working;

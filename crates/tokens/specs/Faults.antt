@@ -1,7 +1,9 @@
 -- number e: the number of a fault; layered l: of a layer; refused r: of a refusal outside a run; lexical e: a lexer's error as a run raises it
 -- raised k e l: the fault e at the place l, found by the layer k; unexpected k x: of a token that must not stand there
 -- ended f: a step that ends with the fault f; closed c: one that meets the closing of a source; starved: the refusal for want of memory
-use Rattle.std.specs.Prelude.{ℕ, None}
+-- fault_text f, refusal_text r: what a listing says of a fault, of a refusal
+use Rattle.std.specs.Prelude.{ℕ, List, ◌++◌, codes, None}
+use Rattle.std.specs.Fmt.{decimal}
 use Rattle.tokens.specs.declared.location.Location.{Location}
 use Rattle.tokens.specs.declared.token.Token.{Token}
 use Rattle.tokens.specs.declared.fault.Fault.{Fault}
@@ -87,3 +89,9 @@ closed (closing.Fault e l) = ended (raised Source (lexical e) l)
 
 abbrev pub starved : Refusal
 starved = Memory
+
+abbrev pub fault_text : Fault → List ℕ
+fault_text f = codes "fault " ++ (decimal (number f.error) ++ (codes " " ++ (decimal (layered f.layer) ++ (codes " " ++ decimal f.location.line))))
+
+abbrev pub refusal_text : Refusal → List ℕ
+refusal_text r = codes "fault " ++ decimal (refused r)

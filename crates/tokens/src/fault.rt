@@ -1,6 +1,6 @@
 // Faults: what went wrong, where, and which layer found it.
-ghost use Rattle.std.specs.Prelude.{◌≡◌};
-ghost use Rattle.tokens.specs.Faults.{number, layered, refused, lexical, raised, unexpected, ended, closed, starved};
+ghost use Rattle.std.specs.Prelude.{◌≡◌, Some};
+ghost use Rattle.tokens.specs.Faults.{number, layered, refused, lexical, raised, unexpected, ended, closed, starved, fault_text, refusal_text};
 
 use crate::lexer::{Closing, LexerError};
 use crate::location::Location;
@@ -215,13 +215,15 @@ impl From<AllocError> for Refusal {
 impl<T: Drop> From<AllocFailed<T>> for Refusal {
     ghost from_gives = { λ _ refusal. refusal ≡ starved };
 
-    fn from(_error: AllocFailed<T>) -> Refusal {
-        Refusal::Memory
+    fn from(failed: AllocFailed<T>) -> Refusal {
+        AllocError::from(failed).into()
     }
 }
 
 // The number, the layer and the line.
 impl fmt::Display for Fault {
+    ghost output = { λ f. Some (fault_text f) };
+
     fn fmt<W: fmt::Write>(&self, f: &mut fmt::Formatter<W>) -> fmt::Result {
         let number = self.error.number();
         let layer = self.layer.number();
@@ -231,6 +233,8 @@ impl fmt::Display for Fault {
 }
 
 impl fmt::Display for Refusal {
+    ghost output = { λ r. Some (refusal_text r) };
+
     fn fmt<W: fmt::Write>(&self, f: &mut fmt::Formatter<W>) -> fmt::Result {
         let number = self.number();
         write!(f, "fault {number}")

@@ -9,6 +9,7 @@ pub mod book;
 pub mod changes;
 pub mod counts;
 pub mod pending;
+pub mod store;
 
 #[derive(Drop)]
 pub struct Defines {

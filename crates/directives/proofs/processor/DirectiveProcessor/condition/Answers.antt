@@ -1,5 +1,5 @@
 use Rattle.stores.specs.Tank.{tank}
-use Rattle.stores.proofs.Growing.{grows_on, given_back}
+use Rattle.stores.specs.Growing.{grows_on, given_back}
 use Rattle.directives.proofs.processor.DirectiveProcessor.condition.Goals as goal
 
 pub returns-in-Ok : goal.returns-in-Ok

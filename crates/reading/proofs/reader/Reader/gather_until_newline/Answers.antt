@@ -1,5 +1,5 @@
 use Rattle.stores.specs.Tank.{tank}
-use Rattle.stores.proofs.Growing.{grows_same, grows_stored}
+use Rattle.stores.specs.Growing.{grows_same, grows_stored}
 use Rattle.reading.proofs.reader.Reader.gather_until_newline.Goals as goal
 
 pub loop-token-init : goal.loop-token-init
