@@ -1,6 +1,5 @@
--- fault e l: a fault of the directive layer; unexpected x: the fault of a lexed token that may not stand where it is
+-- unexpected x: the fault of a lexed token that may not stand where it is
 -- converted x: the token that a lexed token stands for, a hash or a line end
-use Rattle.std.specs.Prelude.{None}
 use Rattle.tokens.specs.declared.location.Location.{Location}
 use Rattle.tokens.specs.declared.token.TokenValue.TheVariants as value
 use Rattle.tokens.specs.declared.lexer.LexerToken.{LexerToken}
@@ -10,11 +9,9 @@ use Rattle.tokens.specs.declared.fault.Fault.{Fault}
 use Rattle.tokens.specs.declared.fault.Layer.TheVariants.{Directives}
 use Rattle.tokens.specs.declared.fault.PreprocessorError.{PreprocessorError}
 use Rattle.tokens.specs.declared.fault.PreprocessorError.TheVariants.{UnexpectedToken, UnexpectedHash, UnexpectedNewLine}
+use Rattle.tokens.specs.Faults.{raised}
 use Rattle.reading.specs.declared.convert.Converted.{Converted}
 use Rattle.reading.specs.declared.convert.Converted.TheVariants as is
-
-abbrev pub fault : PreprocessorError → Location → Fault
-fault e l = record { error = e; location = l; layer = Directives; directive = None }
 
 abbrev pub unexpected_value : LexerTokenValue → PreprocessorError
 unexpected_value (Ident n) = UnexpectedToken (value.Ident n)
@@ -25,7 +22,7 @@ unexpected_value Hash = UnexpectedHash
 unexpected_value NewLine = UnexpectedNewLine
 
 abbrev pub unexpected : LexerToken → Fault
-unexpected x = fault (unexpected_value x.value) x.location
+unexpected x = raised Directives (unexpected_value x.value) x.location
 
 abbrev pub converted_value : LexerTokenValue → Location → Converted
 converted_value (Ident n) l = is.Token (record { value = value.Ident n; location = l })

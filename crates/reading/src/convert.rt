@@ -1,10 +1,9 @@
-// From a lexed token to a token, or to the fault that it is.
+// Lexed tokens as tokens of the text.
 ghost use Rattle.std.specs.Prelude.{◌≡◌};
-ghost use Rattle.reading.specs.Converts.{fault, unexpected, converted};
+ghost use Rattle.reading.specs.Converts.{unexpected, converted};
 
 use tokens::fault::{Fault, Layer, PreprocessorError};
 use tokens::lexer::{LexerToken, LexerTokenValue};
-use tokens::location::Location;
 use tokens::token::{Token, TokenValue};
 
 // What a lexed token stands for: line ends and hashes are no tokens of the text.
@@ -15,53 +14,32 @@ pub enum Converted {
     NewLine,
 }
 
-pub fn fault(error: PreprocessorError, location: Location) -> Fault
-    ensures { result ≡ fault error location }
-{
-    Fault {
-        error,
-        location,
-        layer: Layer::Directives,
-        directive: None,
+impl From<LexerToken> for Converted {
+    ghost from_gives = { λ token c. c ≡ converted token };
+
+    fn from(token: LexerToken) -> Converted {
+        let value = match token.value {
+            LexerTokenValue::Integer(i) => TokenValue::Integer(i),
+            LexerTokenValue::Float(f) => TokenValue::Float(f),
+            LexerTokenValue::Ident(n) => TokenValue::Ident(n),
+            LexerTokenValue::Punct(p) => TokenValue::Punct(p),
+            LexerTokenValue::Hash => return Converted::Hash,
+            LexerTokenValue::NewLine => return Converted::NewLine,
+        };
+        Converted::Token(Token {
+            value,
+            location: token.location,
+        })
     }
 }
 
 pub fn make_unexpected_error(token: LexerToken) -> Fault
     ensures { result ≡ unexpected token }
 {
-    let error = match token.value {
-        LexerTokenValue::Integer(i) => PreprocessorError::UnexpectedToken(TokenValue::Integer(i)),
-        LexerTokenValue::Float(f) => PreprocessorError::UnexpectedToken(TokenValue::Float(f)),
-        LexerTokenValue::Ident(n) => PreprocessorError::UnexpectedToken(TokenValue::Ident(n)),
-        LexerTokenValue::Punct(p) => PreprocessorError::UnexpectedToken(TokenValue::Punct(p)),
-        LexerTokenValue::NewLine => PreprocessorError::UnexpectedNewLine,
-        LexerTokenValue::Hash => PreprocessorError::UnexpectedHash,
+    let error = match Converted::from(token) {
+        Converted::Token(x) => PreprocessorError::UnexpectedToken(x.value),
+        Converted::NewLine => PreprocessorError::UnexpectedNewLine,
+        Converted::Hash => PreprocessorError::UnexpectedHash,
     };
-    fault(error, token.location)
-}
-
-pub fn convert_lexer_token(token: LexerToken) -> Converted
-    ensures { result ≡ converted token }
-{
-    let location = token.location;
-    match token.value {
-        LexerTokenValue::Integer(i) => Converted::Token(Token {
-            value: TokenValue::Integer(i),
-            location,
-        }),
-        LexerTokenValue::Float(f) => Converted::Token(Token {
-            value: TokenValue::Float(f),
-            location,
-        }),
-        LexerTokenValue::Ident(n) => Converted::Token(Token {
-            value: TokenValue::Ident(n),
-            location,
-        }),
-        LexerTokenValue::Punct(p) => Converted::Token(Token {
-            value: TokenValue::Punct(p),
-            location,
-        }),
-        LexerTokenValue::Hash => Converted::Hash,
-        LexerTokenValue::NewLine => Converted::NewLine,
-    }
+    Fault::new(error, token.location, Layer::Directives)
 }

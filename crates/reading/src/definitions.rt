@@ -3,12 +3,13 @@ ghost use Rattle.std.specs.Prelude.{◌≡◌};
 ghost use Rattle.books.specs.Book.{Grown};
 ghost use Rattle.defines.specs.Held.{held, ReadOn, Settled};
 
-use crate::convert::{Converted, convert_lexer_token, fault, make_unexpected_error};
+use crate::convert::make_unexpected_error;
+use crate::lines::put;
 use crate::reader::Reader;
 use books::Book;
 use defines::table::Defines;
 use sources::source::Source;
-use tokens::fault::{Fault, PreprocessorError, Step, StepExit};
+use tokens::fault::{Fault, Layer, PreprocessorError, Step};
 use tokens::lexer::{LexerToken, LexerTokenValue};
 use tokens::location::Location;
 use tokens::punct::Punct;
@@ -16,26 +17,18 @@ use tokens::token::{Token, TokenValue};
 
 // The `(` of a function-like definition follows its name with no whitespace between.
 fn opens_parameters(token: LexerToken) -> bool {
-    match token.value {
-        LexerTokenValue::Punct(Punct::LeftParen) => !token.leading_whitespace,
-        _ => false,
-    }
+    matches!(token.value, LexerTokenValue::Punct(Punct::LeftParen)) && !token.leading_whitespace
 }
 
 // One more parameter: at most 32, and each is a kept token.
-fn keep_parameter(defines: &mut Defines, name: u32, location: Location) -> Step<()>
+fn keep_parameter(defines: &mut Defines, name: u32, location: Location) -> Result<(), Fault>
     ensures { ReadOn defines.old defines.new }
 {
-    if defines.pending_parameters() >= 32 {
-        return Err(StepExit::Error(fault(PreprocessorError::TooManyParameters, location)));
-    }
-    if !defines.keep_parameter(Token {
+    let kept = defines.keep_parameter(Token {
         value: TokenValue::Ident(name),
         location,
-    }) {
-        return Err(StepExit::Error(fault(PreprocessorError::KeptTokensFull, location)));
-    }
-    Ok(())
+    });
+    kept.map_err(|error| Fault::new(error, location, Layer::Directives))
 }
 
 impl<S: Source> Reader<S> {
@@ -52,14 +45,16 @@ impl<S: Source> Reader<S> {
                 LexerTokenValue::Punct(Punct::Comma) if !first_param => {
                     let (name, location) = self.expect_lexer_ident(token.location)?;
                     if defines.is_pending_parameter(name) {
-                        return Err(StepExit::Error(fault(
+                        return Err(Fault::new(
                             PreprocessorError::DuplicateParameter,
                             location,
-                        )));
+                            Layer::Directives,
+                        )
+                        .into());
                     }
                     (name, location)
                 }
-                _ => return Err(StepExit::Error(make_unexpected_error(token))),
+                _ => return Err(make_unexpected_error(token).into()),
             };
             first_param = false;
             keep_parameter(defines, name, location)?;
@@ -96,37 +91,22 @@ pub fn accept_define(
         if legal {
             return Ok(());
         }
-        return Err(fault(PreprocessorError::DefineRedefined, location));
+        return Err(Fault::new(
+            PreprocessorError::DefineRedefined,
+            location,
+            Layer::Directives,
+        ));
     }
-    if defines.accept(name, function_like) {
-        Ok(())
-    } else {
-        Err(fault(PreprocessorError::TooManyDefines, location))
-    }
+    let accepted = defines.accept(name, function_like);
+    accepted.map_err(|error| Fault::new(error, location, Layer::Directives))
 }
 
-// A token of a host's definition; line ends are skipped.
-fn keep_token(defines: &mut Defines, token: LexerToken) -> Result<(), Fault>
-    ensures { ReadOn defines.old defines.new }
-{
-    match convert_lexer_token(token) {
-        Converted::NewLine => Ok(()),
-        Converted::Hash => Err(make_unexpected_error(token)),
-        Converted::Token(x) => {
-            if defines.keep(x) {
-                Ok(())
-            } else {
-                Err(fault(PreprocessorError::KeptTokensFull, x.location))
-            }
-        }
-    }
-}
-
+// The tokens of a host's definition; line ends are skipped.
 pub fn keep_tokens(defines: &mut Defines, tokens: &[LexerToken]) -> Result<(), Fault>
     ensures { ReadOn defines.old defines.new }
 {
     for token in tokens {
-        keep_token(defines, *token)?;
+        put(defines, *token)?;
     }
     Ok(())
 }

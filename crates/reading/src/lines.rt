@@ -6,15 +6,31 @@ ghost use Rattle.stores.specs.Tank.{tank, Grows};
 ghost use Rattle.defines.specs.Held.{ReadOn};
 ghost use Rattle.reading.specs.Reads.{told};
 
-use crate::convert::{Converted, convert_lexer_token, fault, make_unexpected_error};
+use crate::convert::{Converted, make_unexpected_error};
 use crate::reader::Reader;
 use defines::table::Defines;
+use sources::line::is_new_line;
 use sources::source::Source;
 use stores::meter::Meter;
 use stores::span::Span;
+use stores::store::TokenStore;
 use tokens::fault::{Fault, Layer, PreprocessorError, Step, StepExit};
-use tokens::lexer::{Closing, LexerToken, LexerTokenValue};
-use tokens::location::{Location, default_location};
+use tokens::lexer::{LexerToken, LexerTokenValue};
+use tokens::location::Location;
+
+// A token of a line goes into a store; a line end does not.
+pub(crate) fn put<T: TokenStore>(store: &mut T, token: LexerToken) -> Result<(), Fault>
+    ensures { T.Grew store.old store.new }
+{
+    match Converted::from(token) {
+        Converted::Token(x) => {
+            let put = store.put(x);
+            put.map_err(|error| Fault::new(error, x.location, Layer::Directives))
+        }
+        Converted::NewLine => Ok(()),
+        Converted::Hash => Err(make_unexpected_error(token)),
+    }
+}
 
 impl<S: Source> Reader<S> {
     pub fn new(source: S) -> Reader<S>
@@ -22,7 +38,7 @@ impl<S: Source> Reader<S> {
     {
         Reader {
             source,
-            last: default_location(),
+            last: Location::default(),
         }
     }
 
@@ -32,40 +48,31 @@ impl<S: Source> Reader<S> {
         ensures falls { OnOk result (length (S.means self.new.source).rest < length (S.means self.old.source).rest) }
         ensures never { length (S.means self.new.source).rest ≤ length (S.means self.old.source).rest }
     {
-        match self.source.next() {
-            Ok(token) => {
-                self.last = token.location;
-                Ok(token)
-            }
-            Err(Closing::End) => Err(StepExit::Finished),
-            Err(Closing::Fault(error, location)) => {
-                Err(StepExit::Error(Fault {
-                    error: error.raised(),
-                    location,
-                    layer: Layer::Source,
-                    directive: None,
-                }))
-            }
-        }
+        let token = self.source.next()?;
+        self.last = token.location;
+        Ok(token)
     }
 
     pub fn expect_a_lexer_token(&mut self, current_location: Location) -> Step<LexerToken>
         ensures { length (S.means self.new.source).rest ≤ length (S.means self.old.source).rest }
     {
         match self.get_lexer_token() {
-            Err(StepExit::Finished) => Err(StepExit::Error(fault(
+            Err(StepExit::Finished) => Err(Fault::new(
                 PreprocessorError::UnexpectedEndOfInput,
                 current_location,
-            ))),
+                Layer::Directives,
+            )
+            .into()),
             step => step,
         }
     }
 
     pub fn expect_newline(&mut self, current_location: Location) -> Step<()> {
         let token = self.expect_a_lexer_token(current_location)?;
-        match token.value {
-            LexerTokenValue::NewLine => Ok(()),
-            _ => Err(StepExit::Error(make_unexpected_error(token))),
+        if is_new_line(token.value) {
+            Ok(())
+        } else {
+            Err(make_unexpected_error(token).into())
         }
     }
 
@@ -73,19 +80,27 @@ impl<S: Source> Reader<S> {
         ensures { length (S.means self.new.source).rest ≤ length (S.means self.old.source).rest }
     {
         let token = self.expect_a_lexer_token(current_location)?;
-        match token.value {
-            LexerTokenValue::Ident(name) => Ok((name, token.location)),
-            _ => Err(StepExit::Error(make_unexpected_error(token))),
-        }
+        let LexerTokenValue::Ident(name) = token.value else {
+            return Err(make_unexpected_error(token).into());
+        };
+        Ok((name, token.location))
     }
 
     pub fn consume_until_newline(&mut self) -> Step<()> {
-        loop {
-            let token = self.get_lexer_token()?;
-            if let LexerTokenValue::NewLine = token.value {
-                return Ok(());
-            }
+        while !is_new_line(self.get_lexer_token()?.value) {}
+        Ok(())
+    }
+
+    // This token and the rest of the line go into a store.
+    fn put_until_newline<T: TokenStore>(&mut self, first: LexerToken, store: &mut T) -> Step<()>
+        ensures { T.Grew store.old store.new }
+    {
+        let mut token = first;
+        while !is_new_line(token.value) {
+            put(store, token)?;
+            token = self.get_lexer_token()?;
         }
+        Ok(())
     }
 
     // The rest of the line, as a part of the working store.
@@ -93,45 +108,18 @@ impl<S: Source> Reader<S> {
         ensures { Grows (tank meter.old) (tank meter.new) }
     {
         let from = meter.working.len();
-        loop {
-            let token = self.get_lexer_token()?;
-            match convert_lexer_token(token) {
-                Converted::NewLine => return Ok(Span {
-                    from,
-                    to: meter.working.len(),
-                }),
-                Converted::Hash => return Err(StepExit::Error(make_unexpected_error(token))),
-                Converted::Token(x) => {
-                    if !meter.store(x) {
-                        return Err(StepExit::Error(fault(
-                            PreprocessorError::WorkingTokensFull,
-                            x.location,
-                        )));
-                    }
-                }
-            }
-        }
+        let first = self.get_lexer_token()?;
+        self.put_until_newline(first, meter)?;
+        Ok(Span {
+            from,
+            to: meter.working.len(),
+        })
     }
 
     // This token and the rest of the line are kept.
     pub fn keep_until_newline(&mut self, first: LexerToken, defines: &mut Defines) -> Step<()>
         ensures { ReadOn defines.old defines.new }
     {
-        let mut token = first;
-        loop {
-            match convert_lexer_token(token) {
-                Converted::NewLine => return Ok(()),
-                Converted::Hash => return Err(StepExit::Error(make_unexpected_error(token))),
-                Converted::Token(x) => {
-                    if !defines.keep(x) {
-                        return Err(StepExit::Error(fault(
-                            PreprocessorError::KeptTokensFull,
-                            x.location,
-                        )));
-                    }
-                }
-            }
-            token = self.get_lexer_token()?;
-        }
+        self.put_until_newline(first, defines)
     }
 }

@@ -1,11 +1,13 @@
 // Blocks are opened, changed and closed.
-ghost use Rattle.std.specs.Prelude.{◌≡◌, ℕ, ◌-◌, ◌<◌, ◌≤◌, false, cond, [], length, take, IfOk, vec_len, vec_capacity, nat_lt};
+ghost use Rattle.std.specs.Prelude.{◌≡◌, ℕ, ◌-◌, ◌<◌, ◌≤◌, false, cond, [], length, take, is_ok, IfOk, IfErr, vec_len, vec_capacity, nat_lt};
+ghost use Rattle.tokens.specs.declared.fault.PreprocessorError.TheVariants.{TooManyBlocks};
 ghost use Rattle.stores.specs.Places.{latest};
 ghost use Rattle.reading.specs.Blocks.{pushed, replaced};
 
 use crate::blocks::{Blocks, DirectiveBlock};
 use std::alloc::{AllocError, Global};
 use stores::records;
+use tokens::fault::PreprocessorError;
 
 // At most this many blocks are open.
 pub const MAX_BLOCKS: usize = 64;
@@ -29,26 +31,22 @@ impl Blocks {
     }
 
     // One more block, unless 64 are open.
-    pub fn begin(&mut self, block: DirectiveBlock, skipping: bool) -> bool
-        ensures value { result ≡ nat_lt (length self.old.stack.items) 64 }
+    pub fn begin(&mut self, block: DirectiveBlock, skipping: bool) -> Result<(), PreprocessorError>
+        ensures value { is_ok result ≡ nat_lt (length self.old.stack.items) 64 }
+        ensures refused { IfErr result (λ e. e ≡ TooManyBlocks) }
         ensures stack { self.new.stack.items ≡ pushed self.old.stack.items block }
         ensures skipping { self.new.skipping ≡ skipping }
     {
         self.skipping = skipping;
-        match records::push(&mut self.stack, MAX_BLOCKS, block) {
-            Ok(()) => true,
-            Err(_) => false,
-        }
+        let pushed = records::push(&mut self.stack, MAX_BLOCKS, block);
+        pushed.map_err(|_| PreprocessorError::TooManyBlocks)
     }
 
     // The innermost block.
     pub fn top(&self) -> Option<DirectiveBlock>
         ensures { result ≡ latest self.now.stack.items }
     {
-        match records::top(&self.stack) {
-            Some(block) => Some(*block),
-            None => None,
-        }
+        records::top(&self.stack).copied()
     }
 
     // The innermost block changes.
@@ -57,9 +55,8 @@ impl Blocks {
         ensures skipping { self.new.skipping ≡ skipping }
     {
         self.skipping = skipping;
-        let n = self.stack.len();
-        if n > 0 {
-            self.stack[n - 1] = block;
+        if let Some(top) = self.stack.last_mut() {
+            *top = block;
         }
     }
 
