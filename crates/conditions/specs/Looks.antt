@@ -1,5 +1,5 @@
 -- What a look answers, and what it leaves of the parser, the feed and the meter.
--- raised e l: a fault of a condition; unwanted x: of a token that must not stand there; located l a: an operator's answer, its error put at l
+-- located l a: an operator's answer, its error put at l
 -- passing b x: what a name that is no macro stands for; taken p: the parser with no token carried
 -- carries o: how many tokens are carried; ahead o t: no more tokens than this can still be taken
 -- Looked d p t e q u: from the book d, the parser p and the meter t to e, q and u: what Moved says, the directive's word and kind stay, and `ahead` does not grow
@@ -15,29 +15,24 @@ use Rattle.tokens.specs.declared.token.TokenValue.TheVariants.{Integer}
 use Rattle.tokens.specs.declared.fault.Fault.{Fault}
 use Rattle.tokens.specs.declared.fault.Layer.TheVariants.{Conditions}
 use Rattle.tokens.specs.declared.fault.PreprocessorError.{PreprocessorError}
-use Rattle.tokens.specs.declared.fault.PreprocessorError.TheVariants.{UnexpectedToken, UnexpectedEndOfInput}
-use Rattle.tokens.specs.Faults.{number}
+use Rattle.tokens.specs.declared.fault.PreprocessorError.TheVariants.{UnexpectedEndOfInput}
+use Rattle.tokens.specs.Faults.{number, raised, unexpected}
 use Rattle.stores.specs.Tank.{Tank}
 use Rattle.stores.specs.Idents.{ident_of}
 use Rattle.books.specs.Book.{Defs, find}
 use Rattle.expansion.specs.Processor.{view}
 use Rattle.expansion.specs.Moved.{Moved}
 use Rattle.conditions.specs.declared.if_parser.IfParser.{IfParser}
+use Rattle.operators.specs.declared.Level.{Level}
 use Rattle.operators.specs.Calc.{operator_level, flag}
-
-abbrev pub raised : PreprocessorError → Location → Fault
-raised e l = record { error = e; location = l; layer = Conditions; directive = None }
-
-abbrev pub unwanted : Token → Fault
-unwanted x = raised (UnexpectedToken x.value) x.location
 
 abbrev pub located : Location → Result ℤ PreprocessorError → Result ℤ Fault
 located l (Ok v) = Ok v
-located l (Err e) = Err (raised e l)
+located l (Err e) = Err (raised Conditions e l)
 
 abbrev pub passing : Bool → Token → Result Token Fault
 passing true x = Ok (record { value = Integer (record { value = 0; signed = true; width = 64 }); location = x.location })
-passing false x = Err (unwanted x)
+passing false x = Err (unexpected Conditions x)
 
 abbrev pub taken : IfParser → IfParser
 taken p = record { processor = p.processor; carry = None; location = p.location; parsing_if = p.parsing_if }
@@ -75,7 +70,7 @@ Spent (Err f) = number f.error ≡ 40
 
 abbrev pub Ended : {X : Type 0} → Location → Result X Fault → Type 0
 Ended l (Ok x) = Unit {0}
-Ended l (Err f) = (number f.error ≡ 40) ⊎ (f ≡ raised UnexpectedEndOfInput l)
+Ended l (Err f) = (number f.error ≡ 40) ⊎ (f ≡ raised Conditions UnexpectedEndOfInput l)
 
 abbrev pub Tells : Defs → Result ℤ Fault → Type 0
 Tells d (Ok v) = (n : ℕ) × (v ≡ flag (is_some (find d n)))
@@ -102,7 +97,7 @@ Settled (Ok (Some x)) = defines (ident_of x)
 Settled (Ok None) = Unit {0}
 Settled (Err f) = Unit {0}
 
-abbrev pub OfLevel : ℕ → Result (Option Punct) Fault → Type 0
-OfLevel k (Ok (Some p)) = operator_level p ≡ k
+abbrev pub OfLevel : Level → Result (Option Punct) Fault → Type 0
+OfLevel k (Ok (Some p)) = operator_level p ≡ Some k
 OfLevel k (Ok None) = Unit {0}
 OfLevel k (Err f) = Unit {0}

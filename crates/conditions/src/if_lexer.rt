@@ -6,7 +6,7 @@ ghost use Rattle.conditions.specs.Lexer.{lexed, lexed_on};
 
 use books::{Book, Feed, Handle};
 use stores::meter::Meter;
-use stores::span::{Span, onward};
+use stores::span::Span;
 use tokens::fault::{Fault, Step, StepExit};
 use tokens::location::Location;
 use tokens::token::Token;
@@ -52,13 +52,9 @@ impl<'a, B: Book> Feed for IfLexer<'a, B> {
         ensures value { result ≡ lexed (read meter.old.working.items self.old.tokens) }
         ensures after { self.new.tokens ≡ lexed_on (read meter.old.working.items self.old.tokens) self.old.tokens }
     {
-        match meter.read(self.tokens) {
-            Some(t) => {
-                self.tokens = onward(self.tokens);
-                Ok(t)
-            }
-            None => Err(StepExit::Finished),
-        }
+        let token = meter.read(self.tokens).ok_or(StepExit::Finished)?;
+        self.tokens = self.tokens.onward();
+        Ok(token)
     }
 
     fn place(&self) -> Location {

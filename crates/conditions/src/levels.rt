@@ -6,11 +6,10 @@ ghost use Rattle.expansion.specs.Sane.{Holds};
 ghost use Rattle.conditions.specs.Looks.{ahead, Looked, Took};
 
 use crate::if_parser::IfParser;
-use crate::looks::{fault, unexpected};
 use books::Feed;
-use operators::sign_of;
+use operators::{Level, sign_of};
 use stores::meter::Meter;
-use tokens::fault::{Fault, PreprocessorError};
+use tokens::fault::{Fault, Layer, PreprocessorError};
 use tokens::punct::Punct;
 use tokens::token::TokenValue;
 
@@ -44,13 +43,17 @@ impl IfParser {
             TokenValue::Integer(int) => Ok(int.value.cast_signed()),
             TokenValue::Punct(Punct::LeftParen) => {
                 if depth >= DEPTH {
-                    return Err(fault(PreprocessorError::ConditionTooDeep, x.location));
+                    return Err(Fault::new(
+                        PreprocessorError::ConditionTooDeep,
+                        x.location,
+                        Layer::Conditions,
+                    ));
                 }
                 let v = self.logical_or(lexer, meter, depth + 1)?;
                 self.close(lexer, meter)?;
                 Ok(v)
             }
-            _ => Err(unexpected(x)),
+            _ => Err(Fault::unexpected(x, Layer::Conditions)),
         }
     }
 
@@ -66,7 +69,11 @@ impl IfParser {
         };
         self.take();
         if depth >= DEPTH {
-            return Err(fault(PreprocessorError::ConditionTooDeep, x.location));
+            return Err(Fault::new(
+                PreprocessorError::ConditionTooDeep,
+                x.location,
+                Layer::Conditions,
+            ));
         }
         let v = self.unary(lexer, meter, depth + 1)?;
         self.apply_sign(sign, v)
@@ -84,7 +91,7 @@ impl IfParser {
         ensures took { Took result (ahead self.old.carry (tank meter.old)) (ahead self.new.carry (tank meter.new)) }
     {
         let mut left = self.unary(lexer, meter, depth)?;
-        while let Some(op) = self.take_op(1, lexer, meter)? {
+        while let Some(op) = self.take_op(Level::Multiplicative, lexer, meter)? {
             let right = self.unary(lexer, meter, depth)?;
             left = self.apply(op, left, right)?;
         }
@@ -103,7 +110,7 @@ impl IfParser {
         ensures took { Took result (ahead self.old.carry (tank meter.old)) (ahead self.new.carry (tank meter.new)) }
     {
         let mut left = self.multiplicative(lexer, meter, depth)?;
-        while let Some(op) = self.take_op(2, lexer, meter)? {
+        while let Some(op) = self.take_op(Level::Additive, lexer, meter)? {
             let right = self.multiplicative(lexer, meter, depth)?;
             left = self.apply(op, left, right)?;
         }
@@ -117,7 +124,7 @@ impl IfParser {
         ensures took { Took result (ahead self.old.carry (tank meter.old)) (ahead self.new.carry (tank meter.new)) }
     {
         let mut left = self.additive(lexer, meter, depth)?;
-        while let Some(op) = self.take_op(3, lexer, meter)? {
+        while let Some(op) = self.take_op(Level::Shift, lexer, meter)? {
             let right = self.additive(lexer, meter, depth)?;
             left = self.apply(op, left, right)?;
         }
@@ -136,7 +143,7 @@ impl IfParser {
         ensures took { Took result (ahead self.old.carry (tank meter.old)) (ahead self.new.carry (tank meter.new)) }
     {
         let mut left = self.shift(lexer, meter, depth)?;
-        while let Some(op) = self.take_op(4, lexer, meter)? {
+        while let Some(op) = self.take_op(Level::Comparative, lexer, meter)? {
             let right = self.shift(lexer, meter, depth)?;
             left = self.apply(op, left, right)?;
         }
@@ -155,7 +162,7 @@ impl IfParser {
         ensures took { Took result (ahead self.old.carry (tank meter.old)) (ahead self.new.carry (tank meter.new)) }
     {
         let mut left = self.comparative(lexer, meter, depth)?;
-        while let Some(op) = self.take_op(5, lexer, meter)? {
+        while let Some(op) = self.take_op(Level::Equality, lexer, meter)? {
             let right = self.comparative(lexer, meter, depth)?;
             left = self.apply(op, left, right)?;
         }
@@ -174,7 +181,7 @@ impl IfParser {
         ensures took { Took result (ahead self.old.carry (tank meter.old)) (ahead self.new.carry (tank meter.new)) }
     {
         let mut left = self.equality(lexer, meter, depth)?;
-        while let Some(op) = self.take_op(6, lexer, meter)? {
+        while let Some(op) = self.take_op(Level::BitAnd, lexer, meter)? {
             let right = self.equality(lexer, meter, depth)?;
             left = self.apply(op, left, right)?;
         }
@@ -193,7 +200,7 @@ impl IfParser {
         ensures took { Took result (ahead self.old.carry (tank meter.old)) (ahead self.new.carry (tank meter.new)) }
     {
         let mut left = self.bit_and(lexer, meter, depth)?;
-        while let Some(op) = self.take_op(7, lexer, meter)? {
+        while let Some(op) = self.take_op(Level::BitXor, lexer, meter)? {
             let right = self.bit_and(lexer, meter, depth)?;
             left = self.apply(op, left, right)?;
         }
@@ -212,7 +219,7 @@ impl IfParser {
         ensures took { Took result (ahead self.old.carry (tank meter.old)) (ahead self.new.carry (tank meter.new)) }
     {
         let mut left = self.bit_xor(lexer, meter, depth)?;
-        while let Some(op) = self.take_op(8, lexer, meter)? {
+        while let Some(op) = self.take_op(Level::BitOr, lexer, meter)? {
             let right = self.bit_xor(lexer, meter, depth)?;
             left = self.apply(op, left, right)?;
         }
@@ -231,7 +238,7 @@ impl IfParser {
         ensures took { Took result (ahead self.old.carry (tank meter.old)) (ahead self.new.carry (tank meter.new)) }
     {
         let mut left = self.bit_or(lexer, meter, depth)?;
-        while let Some(op) = self.take_op(9, lexer, meter)? {
+        while let Some(op) = self.take_op(Level::LogicalAnd, lexer, meter)? {
             let right = self.bit_or(lexer, meter, depth)?;
             left = self.apply(op, left, right)?;
         }
@@ -250,7 +257,7 @@ impl IfParser {
         ensures took { Took result (ahead self.old.carry (tank meter.old)) (ahead self.new.carry (tank meter.new)) }
     {
         let mut left = self.logical_and(lexer, meter, depth)?;
-        while let Some(op) = self.take_op(10, lexer, meter)? {
+        while let Some(op) = self.take_op(Level::LogicalOr, lexer, meter)? {
             let right = self.logical_and(lexer, meter, depth)?;
             left = self.apply(op, left, right)?;
         }

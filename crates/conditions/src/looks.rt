@@ -3,42 +3,25 @@ ghost use Rattle.std.specs.Prelude.{◌≡◌, ℕ, ◌<◌, ◌≤◌, is_some,
 ghost use Rattle.stores.specs.Tank.{tank};
 ghost use Rattle.expansion.specs.Processor.{view};
 ghost use Rattle.expansion.specs.Sane.{Holds};
-ghost use Rattle.conditions.specs.Looks.{raised, unwanted, located, passing, taken, ahead, Looked, Took, Found, Carried, Spent, Ended, Tells, found_in, Holding, Named, Settled, OfLevel};
+ghost use Rattle.tokens.specs.Faults.{raised};
+ghost use Rattle.conditions.specs.Looks.{located, passing, taken, ahead, Looked, Took, Found, Carried, Spent, Ended, Tells, found_in, Holding, Named, Settled, OfLevel};
 ghost use Rattle.books.specs.Book.{find};
 ghost use Rattle.operators.specs.Calc.{calc, signed, flag};
 
 use crate::if_parser::IfParser;
 use books::{Book, Feed};
-use operators::{Sign, apply, apply_sign, level_of};
+use operators::{Level, Sign, apply, apply_sign, level_of};
 use stores::meter::Meter;
 use tokens::fault::{Fault, Layer, PreprocessorError, StepExit};
-use tokens::location::Location;
 use tokens::punct::Punct;
 use tokens::token::{Integer, Token, TokenValue};
 use tokens::words::DEFINED;
-
-pub fn fault(error: PreprocessorError, location: Location) -> Fault
-    ensures { result ≡ raised error location }
-{
-    Fault {
-        error,
-        location,
-        layer: Layer::Conditions,
-        directive: None,
-    }
-}
-
-pub fn unexpected(x: Token) -> Fault
-    ensures { result ≡ unwanted x }
-{
-    fault(PreprocessorError::UnexpectedToken(x.value), x.location)
-}
 
 // 1 for a name in force, else 0.
 fn in_force<B: Book>(book: &B, name: u32) -> i64
     ensures { result ≡ flag (is_some (find (B.Book.defs book.now) name)) }
 {
-    book.find(name).is_some() as i64
+    i64::from(book.find(name).is_some())
 }
 
 impl IfParser {
@@ -54,21 +37,13 @@ impl IfParser {
         ensures carried { Carried self.old.carry result }
         ensures spent { Spent result }
     {
-        if let Some(x) = self.carry {
-            self.carry = None;
+        if let Some(x) = self.carry.take() {
             return Ok(Some(x));
         }
         match self.processor.raw_step(lexer, meter) {
             Ok(x) => Ok(Some(x)),
-            Err(StepExit::Error(f)) => {
-                if f.error.number() == 40 {
-                    Err(f)
-                } else {
-                    Ok(None)
-                }
-            }
-            Err(StepExit::Continue) => Ok(None),
-            Err(StepExit::Finished) => Ok(None),
+            Err(StepExit::Error(f)) if matches!(f.error, PreprocessorError::MovesSpent) => Err(f),
+            Err(_) => Ok(None),
         }
     }
 
@@ -86,7 +61,7 @@ impl IfParser {
                 location: x.location,
             })
         } else {
-            Err(unexpected(x))
+            Err(Fault::unexpected(x, Layer::Conditions))
         }
     }
 
@@ -148,11 +123,18 @@ impl IfParser {
         self.carry = None;
     }
 
+    // A fault at the directive's word.
+    fn at_word(&self, error: PreprocessorError) -> Fault
+        ensures { result ≡ raised Layer.Conditions error self.now.location }
+    {
+        Fault::new(error, self.location, Layer::Conditions)
+    }
+
     // The line has run out.
     fn ended(&self) -> Fault
-        ensures { result ≡ raised PreprocessorError.UnexpectedEndOfInput self.now.location }
+        ensures { result ≡ raised Layer.Conditions PreprocessorError.UnexpectedEndOfInput self.now.location }
     {
-        fault(PreprocessorError::UnexpectedEndOfInput, self.location)
+        self.at_word(PreprocessorError::UnexpectedEndOfInput)
     }
 
     pub fn expect_raw_next<F: Feed>(
@@ -164,10 +146,7 @@ impl IfParser {
         ensures took { Took result (ahead self.old.carry (tank meter.old)) (ahead self.new.carry (tank meter.new)) }
         ensures ended { Ended self.old.location result }
     {
-        match self.raw_next(lexer, meter)? {
-            Some(x) => Ok(x),
-            None => Err(self.ended()),
-        }
+        self.raw_next(lexer, meter)?.ok_or(self.ended())
     }
 
     pub fn expect_next<F: Feed>(&mut self, lexer: &mut F, meter: &mut Meter) -> Result<Token, Fault>
@@ -176,10 +155,7 @@ impl IfParser {
         ensures took { Took result (ahead self.old.carry (tank meter.old)) (ahead self.new.carry (tank meter.new)) }
         ensures settled { Named result }
     {
-        match self.next(lexer, meter)? {
-            Some(x) => Ok(x),
-            None => Err(self.ended()),
-        }
+        self.next(lexer, meter)?.ok_or(self.ended())
     }
 
     pub fn expect_peek<F: Feed>(&mut self, lexer: &mut F, meter: &mut Meter) -> Result<Token, Fault>
@@ -187,16 +163,13 @@ impl IfParser {
         ensures looked { Looked (F.Book.defs lexer.old) self.old (tank meter.old) (F.Book.defs lexer.new) self.new (tank meter.new) }
         ensures carry { Holding result self.new.carry }
     {
-        match self.peek(lexer, meter)? {
-            Some(x) => Ok(x),
-            None => Err(self.ended()),
-        }
+        self.peek(lexer, meter)?.ok_or(self.ended())
     }
 
     // The operator of the level that comes next is taken, if one does.
     pub fn take_op<F: Feed>(
         &mut self,
-        level: u8,
+        level: Level,
         lexer: &mut F,
         meter: &mut Meter,
     ) -> Result<Option<Punct>, Fault>
@@ -207,7 +180,7 @@ impl IfParser {
     {
         if let Some(x) = self.peek(lexer, meter)? {
             if let TokenValue::Punct(p) = x.value {
-                if level_of(p) == level {
+                if level_of(p) == Some(level) {
                     self.take();
                     return Ok(Some(p));
                 }
@@ -225,7 +198,7 @@ impl IfParser {
         let x = self.expect_next(lexer, meter)?;
         match x.value {
             TokenValue::Punct(Punct::RightParen) => Ok(()),
-            _ => Err(unexpected(x)),
+            _ => Err(Fault::unexpected(x, Layer::Conditions)),
         }
     }
 
@@ -246,34 +219,24 @@ impl IfParser {
             TokenValue::Punct(Punct::LeftParen) => {
                 let inner = self.expect_raw_next(lexer, meter)?;
                 let TokenValue::Ident(name) = inner.value else {
-                    return Err(unexpected(inner));
+                    return Err(Fault::unexpected(inner, Layer::Conditions));
                 };
                 self.close(lexer, meter)?;
                 Ok(in_force(lexer, name))
             }
-            _ => Err(unexpected(next)),
-        }
-    }
-
-    // An error of an operator is at the directive's word.
-    fn at_word(&self, answer: Result<i64, PreprocessorError>) -> Result<i64, Fault>
-        ensures { result ≡ located self.now.location answer }
-    {
-        match answer {
-            Ok(v) => Ok(v),
-            Err(error) => Err(fault(error, self.location)),
+            _ => Err(Fault::unexpected(next, Layer::Conditions)),
         }
     }
 
     pub fn apply(&self, op: Punct, left: i64, right: i64) -> Result<i64, Fault>
         ensures { result ≡ located self.now.location (calc op left right) }
     {
-        self.at_word(apply(op, left, right))
+        apply(op, left, right).map_err(|error| self.at_word(error))
     }
 
     pub fn apply_sign(&self, sign: Sign, v: i64) -> Result<i64, Fault>
         ensures { result ≡ located self.now.location (signed sign v) }
     {
-        self.at_word(apply_sign(sign, v))
+        apply_sign(sign, v).map_err(|error| self.at_word(error))
     }
 }

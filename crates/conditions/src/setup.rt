@@ -5,7 +5,7 @@ ghost use Rattle.expansion.specs.Processor.{view, fresh};
 use crate::if_parser::IfParser;
 use expansion::processor::MacroProcessor;
 use std::alloc::{AllocError, Global};
-use tokens::location::{Location, default_location};
+use tokens::location::Location;
 
 impl IfParser {
     pub fn new(heap: Global) -> Result<IfParser, AllocError>
@@ -15,7 +15,7 @@ impl IfParser {
         Ok(IfParser {
             processor,
             carry: None,
-            location: default_location(),
+            location: Location::default(),
             parsing_if: false,
         })
     }

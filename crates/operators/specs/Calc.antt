@@ -1,5 +1,5 @@
 -- What each operator makes of its operands.
--- operator_level p: the level of a binary operator, from 1 for the tightest to 10 for the loosest; 0 for what is none
+-- operator_level p: the level of a binary operator; place o: its number, from 1 for the tightest to 10 for the loosest, 0 for none
 -- flag b: 1 or 0; eq_z a b: equal values; fitted e z: z if it fits 64 bits, else the error; shift b f: f at a count from 0 to 63, else overflow
 -- calc p a b: what the binary operator p makes of a and b; op_in k v: the operator of level k that a value is
 -- sign_of p, sign_in v: the unary operator that a punctuation, a value is; signed s v: what it makes of v
@@ -13,55 +13,71 @@ use Rattle.tokens.specs.declared.token.TokenValue.{TokenValue}
 use Rattle.tokens.specs.declared.token.TokenValue.TheVariants as value
 use Rattle.tokens.specs.declared.punct.Punct.{Punct}
 use Rattle.tokens.specs.declared.punct.Punct.TheVariants as punct
+use Rattle.operators.specs.declared.Level.{Level}
+use Rattle.operators.specs.declared.Level.TheVariants as level
 use Rattle.operators.specs.declared.Sign.{Sign}
 use Rattle.operators.specs.declared.Sign.TheVariants as sign
 
-abbrev pub operator_level : Punct → ℕ
-operator_level punct.AddAssign = 0
-operator_level punct.SubAssign = 0
-operator_level punct.MulAssign = 0
-operator_level punct.DivAssign = 0
-operator_level punct.ModAssign = 0
-operator_level punct.LeftShiftAssign = 0
-operator_level punct.RightShiftAssign = 0
-operator_level punct.AndAssign = 0
-operator_level punct.XorAssign = 0
-operator_level punct.OrAssign = 0
-operator_level punct.Increment = 0
-operator_level punct.Decrement = 0
-operator_level punct.LogicalAnd = 9
-operator_level punct.LogicalOr = 10
-operator_level punct.LogicalXor = 0
-operator_level punct.LessEqual = 4
-operator_level punct.GreaterEqual = 4
-operator_level punct.EqualEqual = 5
-operator_level punct.NotEqual = 5
-operator_level punct.LeftShift = 3
-operator_level punct.RightShift = 3
-operator_level punct.LeftBrace = 0
-operator_level punct.RightBrace = 0
-operator_level punct.LeftParen = 0
-operator_level punct.RightParen = 0
-operator_level punct.LeftBracket = 0
-operator_level punct.RightBracket = 0
-operator_level punct.LeftAngle = 4
-operator_level punct.RightAngle = 4
-operator_level punct.Semicolon = 0
-operator_level punct.Comma = 0
-operator_level punct.Colon = 0
-operator_level punct.Dot = 0
-operator_level punct.Equal = 0
-operator_level punct.Bang = 0
-operator_level punct.Minus = 2
-operator_level punct.Tilde = 0
-operator_level punct.Plus = 2
-operator_level punct.Star = 1
-operator_level punct.Slash = 1
-operator_level punct.Percent = 1
-operator_level punct.Pipe = 8
-operator_level punct.Caret = 7
-operator_level punct.Ampersand = 6
-operator_level punct.Question = 0
+abbrev pub operator_level : Punct → Option Level
+operator_level punct.AddAssign = None
+operator_level punct.SubAssign = None
+operator_level punct.MulAssign = None
+operator_level punct.DivAssign = None
+operator_level punct.ModAssign = None
+operator_level punct.LeftShiftAssign = None
+operator_level punct.RightShiftAssign = None
+operator_level punct.AndAssign = None
+operator_level punct.XorAssign = None
+operator_level punct.OrAssign = None
+operator_level punct.Increment = None
+operator_level punct.Decrement = None
+operator_level punct.LogicalAnd = Some level.LogicalAnd
+operator_level punct.LogicalOr = Some level.LogicalOr
+operator_level punct.LogicalXor = None
+operator_level punct.LessEqual = Some level.Comparative
+operator_level punct.GreaterEqual = Some level.Comparative
+operator_level punct.EqualEqual = Some level.Equality
+operator_level punct.NotEqual = Some level.Equality
+operator_level punct.LeftShift = Some level.Shift
+operator_level punct.RightShift = Some level.Shift
+operator_level punct.LeftBrace = None
+operator_level punct.RightBrace = None
+operator_level punct.LeftParen = None
+operator_level punct.RightParen = None
+operator_level punct.LeftBracket = None
+operator_level punct.RightBracket = None
+operator_level punct.LeftAngle = Some level.Comparative
+operator_level punct.RightAngle = Some level.Comparative
+operator_level punct.Semicolon = None
+operator_level punct.Comma = None
+operator_level punct.Colon = None
+operator_level punct.Dot = None
+operator_level punct.Equal = None
+operator_level punct.Bang = None
+operator_level punct.Minus = Some level.Additive
+operator_level punct.Tilde = None
+operator_level punct.Plus = Some level.Additive
+operator_level punct.Star = Some level.Multiplicative
+operator_level punct.Slash = Some level.Multiplicative
+operator_level punct.Percent = Some level.Multiplicative
+operator_level punct.Pipe = Some level.BitOr
+operator_level punct.Caret = Some level.BitXor
+operator_level punct.Ampersand = Some level.BitAnd
+operator_level punct.Question = None
+
+-- a level's place, from 1 for the tightest to 10 for the loosest; 0 for none
+abbrev pub place : Option Level → ℕ
+place None = 0
+place (Some level.Multiplicative) = 1
+place (Some level.Additive) = 2
+place (Some level.Shift) = 3
+place (Some level.Comparative) = 4
+place (Some level.Equality) = 5
+place (Some level.BitAnd) = 6
+place (Some level.BitXor) = 7
+place (Some level.BitOr) = 8
+place (Some level.LogicalAnd) = 9
+place (Some level.LogicalOr) = 10
 
 abbrev pub flag : Bool → ℤ
 flag b = cond b (pos 1) (pos 0)
@@ -131,11 +147,11 @@ calc punct.Ampersand a b = Ok (to_z w64 (bit_and (of_z w64 a) (of_z w64 b)))
 calc punct.Question a b = Ok b
 
 -- the operator of level k that a value is, if it is one
-abbrev pub op_in : ℕ → TokenValue → Option Punct
+abbrev pub op_in : Level → TokenValue → Option Punct
 op_in k (value.Ident n) = None
 op_in k (value.Integer i) = None
 op_in k (value.Float f) = None
-op_in k (value.Punct p) = cond (operator_level p == k) (Some p) None
+op_in k (value.Punct p) = cond (place (operator_level p) == place (Some k)) (Some p) None
 op_in k (value.Version v) = None
 op_in k (value.Extension e) = None
 op_in k (value.Pragma p) = None

@@ -16,120 +16,71 @@ pub enum Sign {
     Complement,
 }
 
-// From 1 for the tightest to 10 for the loosest, and 0 for what is no binary operator.
-pub fn level_of(p: Punct) -> u8
+// The levels of the binary operators, the tightest first.
+#[derive(Clone, Copy, PartialEq, Eq)]
+pub enum Level {
+    Multiplicative,
+    Additive,
+    Shift,
+    Comparative,
+    Equality,
+    BitAnd,
+    BitXor,
+    BitOr,
+    LogicalAnd,
+    LogicalOr,
+}
+
+// What is no binary operator has no level.
+pub fn level_of(p: Punct) -> Option<Level>
     ensures { result ≡ operator_level p }
 {
-    match p {
-        Punct::Star | Punct::Slash | Punct::Percent => 1,
-        Punct::Plus | Punct::Minus => 2,
-        Punct::LeftShift | Punct::RightShift => 3,
-        Punct::LeftAngle | Punct::RightAngle | Punct::LessEqual | Punct::GreaterEqual => 4,
-        Punct::EqualEqual | Punct::NotEqual => 5,
-        Punct::Ampersand => 6,
-        Punct::Caret => 7,
-        Punct::Pipe => 8,
-        Punct::LogicalAnd => 9,
-        Punct::LogicalOr => 10,
-        _ => 0,
-    }
+    Some(match p {
+        Punct::Star | Punct::Slash | Punct::Percent => Level::Multiplicative,
+        Punct::Plus | Punct::Minus => Level::Additive,
+        Punct::LeftShift | Punct::RightShift => Level::Shift,
+        Punct::LeftAngle | Punct::RightAngle | Punct::LessEqual | Punct::GreaterEqual => {
+            Level::Comparative
+        }
+        Punct::EqualEqual | Punct::NotEqual => Level::Equality,
+        Punct::Ampersand => Level::BitAnd,
+        Punct::Caret => Level::BitXor,
+        Punct::Pipe => Level::BitOr,
+        Punct::LogicalAnd => Level::LogicalAnd,
+        Punct::LogicalOr => Level::LogicalOr,
+        _ => return None,
+    })
 }
 
-fn mul(a: i64, b: i64) -> Result<i64, PreprocessorError>
-    ensures { result ≡ calc Punct.Star a b }
-{
-    match a.checked_mul(b) {
-        Some(v) => Ok(v),
-        None => Err(PreprocessorError::IntegerOverflow),
-    }
-}
-
-fn div(a: i64, b: i64) -> Result<i64, PreprocessorError>
-    ensures { result ≡ calc Punct.Slash a b }
-{
-    match a.checked_div(b) {
-        Some(v) => Ok(v),
-        None => Err(PreprocessorError::DivisionByZero),
-    }
-}
-
-fn rem(a: i64, b: i64) -> Result<i64, PreprocessorError>
-    ensures { result ≡ calc Punct.Percent a b }
-{
-    match a.checked_rem(b) {
-        Some(v) => Ok(v),
-        None => Err(PreprocessorError::DivisionByZero),
-    }
-}
-
-fn add(a: i64, b: i64) -> Result<i64, PreprocessorError>
-    ensures { result ≡ calc Punct.Plus a b }
-{
-    match a.checked_add(b) {
-        Some(v) => Ok(v),
-        None => Err(PreprocessorError::IntegerOverflow),
-    }
-}
-
-fn sub(a: i64, b: i64) -> Result<i64, PreprocessorError>
-    ensures { result ≡ calc Punct.Minus a b }
-{
-    match a.checked_sub(b) {
-        Some(v) => Ok(v),
-        None => Err(PreprocessorError::IntegerOverflow),
-    }
-}
-
-fn shl(a: i64, b: i64) -> Result<i64, PreprocessorError>
-    ensures { result ≡ calc Punct.LeftShift a b }
-{
-    if b < 0 || b >= 64 {
-        return Err(PreprocessorError::IntegerOverflow);
-    }
-    Ok(a << (b as u32))
-}
-
-fn shr(a: i64, b: i64) -> Result<i64, PreprocessorError>
-    ensures { result ≡ calc Punct.RightShift a b }
-{
-    if b < 0 || b >= 64 {
-        return Err(PreprocessorError::IntegerOverflow);
-    }
-    Ok(a >> (b as u32))
-}
-
-fn neg(a: i64) -> Result<i64, PreprocessorError>
-    ensures { result ≡ fitted PreprocessorError.IntegerOverflow (neg_ℤ a) }
-{
-    match a.checked_neg() {
-        Some(v) => Ok(v),
-        None => Err(PreprocessorError::IntegerOverflow),
-    }
-}
-
-// Both sides are worked out before, also of `&&` and `||`. What is no binary operator answers its right side.
+// Both sides are worked out before, also of `&&` and `||`. A shift goes by 0 to 63 places. What is no binary operator answers its right side.
 pub fn apply(p: Punct, a: i64, b: i64) -> Result<i64, PreprocessorError>
     ensures { result ≡ calc p a b }
 {
     match p {
-        Punct::Star => mul(a, b),
-        Punct::Slash => div(a, b),
-        Punct::Percent => rem(a, b),
-        Punct::Plus => add(a, b),
-        Punct::Minus => sub(a, b),
-        Punct::LeftShift => shl(a, b),
-        Punct::RightShift => shr(a, b),
-        Punct::LeftAngle => Ok((a < b) as i64),
-        Punct::RightAngle => Ok((a > b) as i64),
-        Punct::LessEqual => Ok((a <= b) as i64),
-        Punct::GreaterEqual => Ok((a >= b) as i64),
-        Punct::EqualEqual => Ok((a == b) as i64),
-        Punct::NotEqual => Ok((a != b) as i64),
+        Punct::Star => a.checked_mul(b).ok_or(PreprocessorError::IntegerOverflow),
+        Punct::Slash => a.checked_div(b).ok_or(PreprocessorError::DivisionByZero),
+        Punct::Percent => a.checked_rem(b).ok_or(PreprocessorError::DivisionByZero),
+        Punct::Plus => a.checked_add(b).ok_or(PreprocessorError::IntegerOverflow),
+        Punct::Minus => a.checked_sub(b).ok_or(PreprocessorError::IntegerOverflow),
+        Punct::LeftShift => u32::try_from(b)
+            .ok()
+            .and_then(|n| a.checked_shl(n))
+            .ok_or(PreprocessorError::IntegerOverflow),
+        Punct::RightShift => u32::try_from(b)
+            .ok()
+            .and_then(|n| a.checked_shr(n))
+            .ok_or(PreprocessorError::IntegerOverflow),
+        Punct::LeftAngle => Ok(i64::from(a < b)),
+        Punct::RightAngle => Ok(i64::from(a > b)),
+        Punct::LessEqual => Ok(i64::from(a <= b)),
+        Punct::GreaterEqual => Ok(i64::from(a >= b)),
+        Punct::EqualEqual => Ok(i64::from(a == b)),
+        Punct::NotEqual => Ok(i64::from(a != b)),
         Punct::Ampersand => Ok(a & b),
         Punct::Caret => Ok(a ^ b),
         Punct::Pipe => Ok(a | b),
-        Punct::LogicalAnd => Ok((a != 0 && b != 0) as i64),
-        Punct::LogicalOr => Ok((a != 0 || b != 0) as i64),
+        Punct::LogicalAnd => Ok(i64::from(a != 0 && b != 0)),
+        Punct::LogicalOr => Ok(i64::from(a != 0 || b != 0)),
         _ => Ok(b),
     }
 }
@@ -152,8 +103,8 @@ pub fn apply_sign(s: Sign, v: i64) -> Result<i64, PreprocessorError>
 {
     match s {
         Sign::Plus => Ok(v),
-        Sign::Minus => neg(v),
-        Sign::Not => Ok((v == 0) as i64),
+        Sign::Minus => v.checked_neg().ok_or(PreprocessorError::IntegerOverflow),
+        Sign::Not => Ok(i64::from(v == 0)),
         Sign::Complement => Ok(!v),
     }
 }
