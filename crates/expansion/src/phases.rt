@@ -8,7 +8,7 @@ ghost use Rattle.expansion.specs.Delimiters.{delimits};
 
 use crate::delimiter::{Delimiter, delimiter_of};
 use crate::invocation::{Call, Callee, DefineInvocation, Pending, Phase};
-use crate::processor::MacroProcessor;
+use crate::processor::{MAX_INVOCATIONS, MAX_LEVELS, MacroProcessor};
 use books::{Book, Handle};
 use stores::meter::Meter;
 use stores::records::{Named, find, push};
@@ -16,11 +16,6 @@ use stores::span::Span;
 use tokens::fault::{Fault, Layer, PreprocessorError, Step, StepExit};
 use tokens::location::Location;
 use tokens::token::{Token, TokenValue};
-
-// At most this many levels wait, and at most this many macros are in expansion.
-const MAX_LEVELS: usize = 16;
-
-const MAX_INVOCATIONS: usize = 513;
 
 impl Named for DefineInvocation {
     ghost key = { λ u. Some u.name };
@@ -119,7 +114,7 @@ impl MacroProcessor {
     fn quiet(&self) -> Option<Step<Token>>
         ensures { result ≡ quiet self.now.below.items }
     {
-        if self.below.len() == 0 {
+        if self.below.is_empty() {
             Some(Err(StepExit::Continue))
         } else {
             None
@@ -150,7 +145,7 @@ impl MacroProcessor {
     fn pass(&self, x: Token, meter: &mut Meter) -> Option<Step<Token>>
         ensures { Made (passed (view self.now) (tank meter.old) x) result (view self.now) (tank meter.new) }
     {
-        if self.below.len() == 0 {
+        if self.below.is_empty() {
             return Some(Ok(x));
         }
         match meter.build(x) {

@@ -4,6 +4,18 @@ ghost use Rattle.std.specs.Prelude.{◌≡◌, ℕ, ◌≤◌, vec_len, vec_capa
 use crate::invocation::{DefineInvocation, Pending, Phase};
 use stores::span::Span;
 
+// At most this many levels wait.
+pub const MAX_LEVELS: usize = 16;
+
+// At most this many macros are in expansion: one more than there are definitions.
+pub const MAX_INVOCATIONS: usize = 513;
+
+// At most this many arguments of a call are kept.
+pub const MAX_ARGUMENTS: usize = 32;
+
+// One slot of arguments for each macro in expansion, and one for each level.
+pub const SLOTS: usize = MAX_INVOCATIONS + MAX_LEVELS + 1;
+
 #[derive(Drop)]
 pub struct MacroProcessor {
     pub phase: Phase,

@@ -4,7 +4,7 @@ ghost use Rattle.stores.specs.Spans.{nowhere};
 ghost use Rattle.expansion.specs.Processor.{view, fresh};
 
 use crate::invocation::Phase;
-use crate::processor::MacroProcessor;
+use crate::processor::{MAX_ARGUMENTS, MAX_INVOCATIONS, MAX_LEVELS, MacroProcessor, SLOTS};
 use std::alloc::{AllocError, Global};
 use stores::span::Span;
 
@@ -12,9 +12,9 @@ impl MacroProcessor {
     pub fn new(heap: Global) -> Result<MacroProcessor, AllocError>
         ensures { IfOk result (λ p. view p ≡ fresh p.arguments.items) }
     {
-        let below = Vec::with_capacity(heap, 16)?;
-        let invocations = Vec::with_capacity(heap, 513)?;
-        let arguments = vec![in heap; Span::default(); 16960]?;
+        let below = Vec::with_capacity(heap, MAX_LEVELS)?;
+        let invocations = Vec::with_capacity(heap, MAX_INVOCATIONS)?;
+        let arguments = vec![in heap; Span::default(); SLOTS * MAX_ARGUMENTS]?;
         Ok(MacroProcessor {
             phase: Phase::Plain,
             input: Span::default(),

@@ -10,7 +10,7 @@ use crate::phases::fail;
 use crate::processor::MacroProcessor;
 use books::Feed;
 use stores::meter::Meter;
-use tokens::fault::{Step, StepExit};
+use tokens::fault::Step;
 use tokens::token::{Integer, Token, TokenValue};
 use tokens::words::LINE_MACRO;
 
@@ -21,7 +21,7 @@ impl MacroProcessor {
     {
         if self.is_expanding_define() {
             self.read_invocation(feed, meter)
-        } else if self.below.len() == 0 {
+        } else if self.below.is_empty() {
             feed.step(meter)
         } else {
             self.read_input(meter)
@@ -30,33 +30,28 @@ impl MacroProcessor {
 
     // `__LINE__` becomes its number: inside a macro that macro's line, else the token's own. Only level 0 follows `#line`.
     fn number_line<F: Feed>(&self, step: Step<Token>, feed: &F) -> Step<Token> {
-        let Ok(token) = step else {
-            return step;
-        };
+        let token = step?;
         let TokenValue::Ident(LINE_MACRO) = token.value else {
-            return step;
+            return Ok(token);
         };
         let line = if self.is_expanding_define() {
             self.line
         } else {
             token.location.line
         };
-        let shown = if self.below.len() == 0 {
-            feed.apply_line_offset(line, token.location)
+        let shown = if self.below.is_empty() {
+            feed.apply_line_offset(line, token.location)?
         } else {
-            Ok(line)
+            line
         };
-        match shown {
-            Ok(n) => Ok(Token {
-                value: TokenValue::Integer(Integer {
-                    value: n as u64,
-                    signed: false,
-                    width: 32,
-                }),
-                location: token.location,
+        Ok(Token {
+            value: TokenValue::Integer(Integer {
+                value: shown as u64,
+                signed: false,
+                width: 32,
             }),
-            Err(fault) => Err(StepExit::Error(fault)),
-        }
+            location: token.location,
+        })
     }
 
     // One move, once it is granted: what was held back is met first.
