@@ -1,14 +1,14 @@
 // What each phase makes of the step that it meets.
 ghost use Rattle.std.specs.Prelude.{◌≡◌, ℕ, ◌+◌, ◌<◌, ◌≤◌, length, Some, vec_len};
 ghost use Rattle.stores.specs.Tank.{tank};
-ghost use Rattle.expansion.specs.Processor.{view, base, expanding, fault};
+ghost use Rattle.expansion.specs.Processor.{view, base, expanding, named, fault};
 ghost use Rattle.expansion.specs.Phases.{barred, starting, quiet, entered, passed, begun, parted, split, reached, opened, descended, bare, counted, closed, storing, gathered, returned, finished, holding, spent, meeting, Made};
 ghost use Rattle.expansion.specs.Sane.{Sane, Placed};
 ghost use Rattle.expansion.specs.Delimiters.{delimits};
 
 use crate::delimiter::{Delimiter, delimiter_of};
 use crate::invocation::{Call, Callee, DefineInvocation, Pending, Phase};
-use crate::processor::{MAX_INVOCATIONS, MAX_LEVELS, MacroProcessor};
+use crate::processor::{MAX_ARGUMENTS, MAX_INVOCATIONS, MAX_LEVELS, MacroProcessor};
 use books::{Book, Handle};
 use stores::meter::Meter;
 use stores::records::{Named, find, push};
@@ -31,44 +31,52 @@ pub fn fail(error: PreprocessorError, location: Location) -> Step<Token>
     Err(Fault::new(error, location, Layer::Expansion).into())
 }
 
-// The current argument is whole: it ends at the mark.
-fn split(c: Call, location: Location, mark: usize) -> Call
-    ensures { result ≡ split c location mark }
-{
-    let count = if c.count < 33 { c.count + 1 } else { 33 };
-    Call {
-        callee: c.callee,
-        paren: c.paren,
-        last: location,
-        nesting: c.nesting,
-        from: mark,
-        count,
+impl Callee {
+    // The name that the call begins with.
+    fn token(self) -> Token
+        ensures { result ≡ named self }
+    {
+        Token {
+            value: TokenValue::Ident(self.name),
+            location: self.location,
+        }
+    }
+
+    fn opened(self, location: Location, from: usize) -> Call
+        ensures { result ≡ opened self location from }
+    {
+        Call {
+            callee: self,
+            paren: location,
+            last: location,
+            nesting: 0,
+            from,
+            count: 0,
+        }
     }
 }
 
-fn reached(c: Call, nesting: u32, location: Location) -> Call
-    ensures { result ≡ reached c nesting location }
-{
-    Call {
-        callee: c.callee,
-        paren: c.paren,
-        last: location,
-        nesting,
-        from: c.from,
-        count: c.count,
+impl Call {
+    // The current argument is whole: it ends at the mark.
+    fn split(self, location: Location, mark: usize) -> Call
+        ensures { result ≡ split self location mark }
+    {
+        Call {
+            last: location,
+            from: mark,
+            count: self.count.saturating_add(1).min(MAX_ARGUMENTS + 1),
+            ..self
+        }
     }
-}
 
-fn opened(callee: Callee, location: Location, from: usize) -> Call
-    ensures { result ≡ opened callee location from }
-{
-    Call {
-        callee,
-        paren: location,
-        last: location,
-        nesting: 0,
-        from,
-        count: 0,
+    fn reached(self, nesting: u32, location: Location) -> Call
+        ensures { result ≡ reached self nesting location }
+    {
+        Call {
+            last: location,
+            nesting,
+            ..self
+        }
     }
 }
 
@@ -267,7 +275,7 @@ impl MacroProcessor {
         self.part(call, mark);
         self.note_line(location.line);
         self.count(
-            split(call, location, mark),
+            call.split(location, mark),
             book.arity(call.callee.handle),
             meter,
         )
@@ -301,7 +309,7 @@ impl MacroProcessor {
         match delimiter_of(x.value) {
             Delimiter::Open => {
                 if call.nesting < u32::MAX {
-                    self.keep(reached(call, call.nesting + 1, x.location), x, meter)
+                    self.keep(call.reached(call.nesting + 1, x.location), x, meter)
                 } else {
                     Some(fail(PreprocessorError::IntegerOverflow, x.location))
                 }
@@ -310,20 +318,20 @@ impl MacroProcessor {
                 if call.nesting == 0 {
                     self.close(call, x.location, book, meter)
                 } else {
-                    self.keep(reached(call, call.nesting - 1, x.location), x, meter)
+                    self.keep(call.reached(call.nesting - 1, x.location), x, meter)
                 }
             }
             Delimiter::Comma => {
                 if call.nesting == 0 {
                     let mark = meter.working.len();
                     self.part(call, mark);
-                    self.phase = Phase::Gather(split(call, x.location, mark));
+                    self.phase = Phase::Gather(call.split(x.location, mark));
                     None
                 } else {
-                    self.keep(reached(call, call.nesting, x.location), x, meter)
+                    self.keep(call.reached(call.nesting, x.location), x, meter)
                 }
             }
-            Delimiter::Other => self.keep(reached(call, call.nesting, x.location), x, meter),
+            Delimiter::Other => self.keep(call.reached(call.nesting, x.location), x, meter),
         }
     }
 
@@ -362,13 +370,7 @@ impl MacroProcessor {
         ensures { Made (holding (view self.old) (tank meter.old) callee step) result (view self.new) (tank meter.new) }
     {
         self.phase = Phase::Held(step);
-        self.pass(
-            Token {
-                value: TokenValue::Ident(callee.name),
-                location: callee.location,
-            },
-            meter,
-        )
+        self.pass(callee.token(), meter)
     }
 
     // One match on what the processor is doing and what it meets.
@@ -392,7 +394,7 @@ impl MacroProcessor {
             (Phase::Met(callee), Ok(x)) => match delimiter_of(x.value) {
                 Delimiter::Open => {
                     let from = meter.working.len();
-                    self.phase = Phase::Gather(opened(callee, x.location, from));
+                    self.phase = Phase::Gather(callee.opened(x.location, from));
                     None
                 }
                 _ => self.hold(callee, Ok(x), meter),
