@@ -9,7 +9,8 @@ ghost use Rattle.expansion.specs.Delimiters.{delimits};
 use crate::delimiter::{Delimiter, delimiter_of};
 use crate::invocation::{Call, Callee, DefineInvocation, Pending, Phase};
 use crate::processor::{MAX_ARGUMENTS, MAX_INVOCATIONS, MAX_LEVELS, MacroProcessor};
-use books::{Book, Handle};
+use books::Book;
+use std::cmp::Ordering;
 use stores::meter::Meter;
 use stores::records::{Named, find, push};
 use stores::span::Span;
@@ -122,25 +123,21 @@ impl MacroProcessor {
     fn quiet(&self) -> Option<Step<Token>>
         ensures { result ≡ quiet self.now.below.items }
     {
-        if self.below.is_empty() {
-            Some(Err(StepExit::Continue))
-        } else {
-            None
-        }
+        self.below.is_empty().then_some(Err(StepExit::Continue))
     }
 
     // The macro goes on the stack, with the first `count` arguments of this level's call.
-    fn enter(&mut self, name: u32, handle: Handle, count: usize) -> Option<Step<Token>>
+    fn enter(&mut self, callee: Callee, count: usize) -> Option<Step<Token>>
         requires { vec_len self.old.invocations < 513 }
-        ensures value { result ≡ (entered (view self.old) name handle count).0 }
-        ensures after { view self.new ≡ (entered (view self.old) name handle count).1 }
+        ensures value { result ≡ (entered (view self.old) callee.name callee.handle count).0 }
+        ensures after { view self.new ≡ (entered (view self.old) callee.name callee.handle count).1 }
     {
         let slot = self.call_slot();
         let place = self.invocations.len();
         self.copy_arguments(slot, place, count);
         let invocation = DefineInvocation {
-            name,
-            handle,
+            name: callee.name,
+            handle: callee.handle,
             at: 0,
             reading: None,
         };
@@ -156,10 +153,7 @@ impl MacroProcessor {
         if self.below.is_empty() {
             return Some(Ok(x));
         }
-        match meter.build(x) {
-            Ok(()) => None,
-            Err(error) => Some(fail(error, x.location)),
-        }
+        meter.build(x).err().map(|error| fail(error, x.location))
     }
 
     // A name is met: it starts an expansion, may be a call, or passes.
@@ -180,15 +174,16 @@ impl MacroProcessor {
             return self.pass(x, meter);
         };
         self.note_line(x.location.line);
+        let callee = Callee {
+            name,
+            handle,
+            location: x.location,
+        };
         if book.is_function(handle) {
-            self.phase = Phase::Met(Callee {
-                name,
-                handle,
-                location: x.location,
-            });
+            self.phase = Phase::Met(callee);
             return None;
         }
-        self.enter(name, handle, 0)
+        self.enter(callee, 0)
     }
 
     // An argument is to be expanded, one level deeper.
@@ -220,29 +215,21 @@ impl MacroProcessor {
     fn bare(&self, call: Call, arity: usize) -> bool
         ensures { result ≡ bare (view self.now) call arity }
     {
-        if arity == 0 && call.count == 1 {
-            let slot = self.call_slot();
-            let s = self.argument(slot, 0);
-            s.from == s.to
-        } else {
-            false
-        }
+        let s = self.argument(self.call_slot(), 0);
+        arity == 0 && call.count == 1 && s.from == s.to
     }
 
     // The arguments are counted.
     fn count(&mut self, call: Call, arity: usize, meter: &Meter) -> Option<Step<Token>>
         ensures { Made (counted (view self.old) (tank meter.now) call arity) result (view self.new) (tank meter.now) }
     {
-        if call.count > arity {
-            if self.bare(call, arity) {
-                self.descend(call, 0, meter)
-            } else {
-                Some(fail(PreprocessorError::TooManyDefineArguments, call.paren))
-            }
-        } else if call.count < arity {
-            Some(fail(PreprocessorError::TooFewDefineArguments, call.paren))
-        } else {
-            self.descend(call, 0, meter)
+        match call.count.cmp(&arity) {
+            Ordering::Greater if !self.bare(call, arity) => Some(fail(
+                PreprocessorError::TooManyDefineArguments,
+                call.paren,
+            )),
+            Ordering::Less => Some(fail(PreprocessorError::TooFewDefineArguments, call.paren)),
+            Ordering::Greater | Ordering::Equal => self.descend(call, 0, meter),
         }
     }
 
@@ -307,31 +294,21 @@ impl MacroProcessor {
         ensures { Made (gathered (delimits x.value) (B.Book.defs book.now) (view self.old) (tank meter.old) call x) result (view self.new) (tank meter.new) }
     {
         match delimiter_of(x.value) {
-            Delimiter::Open => {
-                if call.nesting < u32::MAX {
-                    self.keep(call.reached(call.nesting + 1, x.location), x, meter)
-                } else {
-                    Some(fail(PreprocessorError::IntegerOverflow, x.location))
-                }
+            Delimiter::Open => match call.nesting.checked_add(1) {
+                Some(nesting) => self.keep(call.reached(nesting, x.location), x, meter),
+                None => Some(fail(PreprocessorError::IntegerOverflow, x.location)),
+            },
+            Delimiter::Close if call.nesting == 0 => self.close(call, x.location, book, meter),
+            Delimiter::Close => self.keep(call.reached(call.nesting - 1, x.location), x, meter),
+            Delimiter::Comma if call.nesting == 0 => {
+                let mark = meter.working.len();
+                self.part(call, mark);
+                self.phase = Phase::Gather(call.split(x.location, mark));
+                None
             }
-            Delimiter::Close => {
-                if call.nesting == 0 {
-                    self.close(call, x.location, book, meter)
-                } else {
-                    self.keep(call.reached(call.nesting - 1, x.location), x, meter)
-                }
+            Delimiter::Comma | Delimiter::Other => {
+                self.keep(call.reached(call.nesting, x.location), x, meter)
             }
-            Delimiter::Comma => {
-                if call.nesting == 0 {
-                    let mark = meter.working.len();
-                    self.part(call, mark);
-                    self.phase = Phase::Gather(call.split(x.location, mark));
-                    None
-                } else {
-                    self.keep(call.reached(call.nesting, x.location), x, meter)
-                }
-            }
-            Delimiter::Other => self.keep(call.reached(call.nesting, x.location), x, meter),
         }
     }
 
@@ -340,10 +317,10 @@ impl MacroProcessor {
         requires { vec_len self.old.invocations < 513 }
         ensures { Made (returned (view self.old) (tank meter.now) done call) result (view self.new) (tank meter.now) }
     {
-        if call.count > 0 && done < call.count - 1 {
-            return self.descend(call, done + 1, meter);
+        match done.checked_add(1) {
+            Some(next) if next < call.count => self.descend(call, next, meter),
+            _ => self.enter(call.callee, call.count),
         }
-        self.enter(call.callee.name, call.callee.handle, call.count)
     }
 
     // The input of this level is used up: the level below goes on.
