@@ -361,42 +361,29 @@ impl MacroProcessor {
         ensures { Made (meeting self.old.phase met (B.Book.defs book.now) (view self.old) (tank meter.old)) result (view self.new) (tank meter.new) }
     {
         match (self.phase, met) {
-            (Phase::Plain, Ok(x)) => match x.value {
-                TokenValue::Ident(name) => self.begin(x, name, book, meter),
-                _ => self.pass(x, meter),
+            (Phase::Plain, Ok(x)) => match x.name() {
+                Some(name) => self.begin(x, name, book, meter),
+                None => self.pass(x, meter),
             },
             (Phase::Plain, Err(StepExit::Continue)) => self.quiet(),
             (Phase::Plain, Err(StepExit::Finished)) => self.finish(meter),
-            (Phase::Plain, Err(StepExit::Error(f))) => Some(Err(StepExit::Error(f))),
-            (Phase::Met(callee), Ok(x)) => match delimiter_of(x.value) {
-                Delimiter::Open => {
-                    let from = meter.working.len();
-                    self.phase = Phase::Gather(callee.opened(x.location, from));
-                    None
-                }
-                _ => self.hold(callee, Ok(x), meter),
-            },
-            (Phase::Met(_), Err(StepExit::Continue)) => None,
-            (Phase::Met(callee), Err(StepExit::Finished)) => self.hold(
-                callee,
-                Err(StepExit::Finished),
-                meter,
-            ),
-            (Phase::Met(callee), Err(StepExit::Error(f))) => {
-                if is_spent(f.error) {
-                    Some(Err(StepExit::Error(f)))
-                } else {
-                    self.hold(callee, Err(StepExit::Error(f)), meter)
-                }
+            (Phase::Met(callee), Ok(x)) if matches!(delimiter_of(x.value), Delimiter::Open) => {
+                let from = meter.working.len();
+                self.phase = Phase::Gather(callee.opened(x.location, from));
+                None
+            }
+            (Phase::Met(_), Err(StepExit::Error(f))) if is_spent(f.error) => Some(met),
+            (Phase::Met(callee), Ok(_) | Err(StepExit::Finished | StepExit::Error(_))) => {
+                self.hold(callee, met, meter)
             }
             (Phase::Gather(call), Ok(x)) => self.gather(call, x, book, meter),
-            (Phase::Gather(_), Err(StepExit::Continue)) => None,
             (Phase::Gather(call), Err(StepExit::Finished)) => Some(fail(
                 PreprocessorError::UnexpectedEndOfInput,
                 call.last,
             )),
-            (Phase::Gather(_), Err(StepExit::Error(f))) => Some(Err(StepExit::Error(f))),
-            (Phase::Held(_), _) => None,
+            (Phase::Plain | Phase::Gather(_), Err(StepExit::Error(_))) => Some(met),
+            (Phase::Met(_) | Phase::Gather(_), Err(StepExit::Continue)) | (Phase::Held(_), _) =>
+                None,
         }
     }
 }
