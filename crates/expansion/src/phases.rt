@@ -81,13 +81,6 @@ impl Call {
     }
 }
 
-// Moves spent is never held back.
-fn is_spent(error: PreprocessorError) -> bool
-    ensures { result ≡ spent error }
-{
-    matches!(error, PreprocessorError::MovesSpent)
-}
-
 impl MacroProcessor {
     // Where the macros of the current level begin.
     pub fn base(&self) -> usize
@@ -372,7 +365,18 @@ impl MacroProcessor {
                 self.phase = Phase::Gather(callee.opened(x.location, from));
                 None
             }
-            (Phase::Met(_), Err(StepExit::Error(f))) if is_spent(f.error) => Some(met),
+            // moves spent is never held back
+            (
+                Phase::Met(_),
+                Err(
+                    StepExit::Error(
+                        Fault {
+                            error: PreprocessorError::MovesSpent,
+                            ..
+                        },
+                    ),
+                ),
+            ) => Some(met),
             (Phase::Met(callee), Ok(_) | Err(StepExit::Finished | StepExit::Error(_))) => {
                 self.hold(callee, met, meter)
             }
