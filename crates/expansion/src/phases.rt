@@ -6,7 +6,7 @@ ghost use Rattle.expansion.specs.Phases.{barred, starting, quiet, entered, passe
 ghost use Rattle.expansion.specs.Sane.{Sane, Placed};
 ghost use Rattle.expansion.specs.Delimiters.{delimits};
 
-use crate::delimiter::{Delimiter, delimiter_of};
+use crate::delimiter::Delimiter;
 use crate::invocation::{Call, Callee, DefineInvocation, Pending, Phase};
 use crate::processor::{MAX_ARGUMENTS, MAX_INVOCATIONS, MAX_LEVELS, MacroProcessor};
 use books::Book;
@@ -286,7 +286,7 @@ impl MacroProcessor {
     ) -> Option<Step<Token>>
         ensures { Made (gathered (delimits x.value) (B.Book.defs book.now) (view self.old) (tank meter.old) call x) result (view self.new) (tank meter.new) }
     {
-        match delimiter_of(x.value) {
+        match Delimiter::from(x.value) {
             Delimiter::Open => match call.nesting.checked_add(1) {
                 Some(nesting) => self.keep(call.reached(nesting, x.location), x, meter),
                 None => Some(fail(PreprocessorError::IntegerOverflow, x.location)),
@@ -360,7 +360,7 @@ impl MacroProcessor {
             },
             (Phase::Plain, Err(StepExit::Continue)) => self.quiet(),
             (Phase::Plain, Err(StepExit::Finished)) => self.finish(meter),
-            (Phase::Met(callee), Ok(x)) if matches!(delimiter_of(x.value), Delimiter::Open) => {
+            (Phase::Met(callee), Ok(x)) if Delimiter::from(x.value) == Delimiter::Open => {
                 let from = meter.working.len();
                 self.phase = Phase::Gather(callee.opened(x.location, from));
                 None
