@@ -86,8 +86,7 @@ impl MacroProcessor {
     pub fn base(&self) -> usize
         ensures { result ≡ base self.now.below.items }
     {
-        let n = self.below.len();
-        if n == 0 { 0 } else { self.below[n - 1].end }
+        self.below.last().map_or(0, |q| q.end)
     }
 
     pub fn is_expanding_define(&self) -> bool
