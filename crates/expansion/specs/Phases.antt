@@ -40,9 +40,12 @@ body_on u = record { name = u.name; handle = u.handle; at = u.at + 1; reading = 
 abbrev pub topped : List DefineInvocation → DefineInvocation → List DefineInvocation
 topped us u = slice_set us (length us - 1) u
 
+abbrev pub on_arg : Option Token → Span → DefineInvocation → Answer × DefineInvocation
+on_arg (Some x) s u = (Ok x, read_on u (Some (onward s)))
+on_arg None s u = (Err Continue, read_on u None)
+
 abbrev pub in_arg : Option Token → Span → List DefineInvocation → Answer × List DefineInvocation
-in_arg (Some x) s us = (Ok x, topped us (read_on (top us) (Some (onward s))))
-in_arg None s us = (Err Continue, topped us (read_on (top us) None))
+in_arg o s us = let e = on_arg o s (top us) in (e.0, topped us e.1)
 
 abbrev pub at_param : Option ℕ → Token → List DefineInvocation → List Span → Answer × List DefineInvocation
 at_param (Some i) x us gs = (Err Continue, topped us (read_on (body_on (top us)) (Some (arg_at gs (length us - 1) i))))

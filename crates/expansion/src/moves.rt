@@ -3,7 +3,7 @@ ghost use Rattle.std.specs.Prelude.{◌≡◌, ℕ, ◌+◌, ◌<◌, ◌≤◌,
 ghost use Rattle.stores.specs.Tank.{tank, read};
 ghost use Rattle.stores.specs.Idents.{ident_of};
 ghost use Rattle.expansion.specs.Processor.{view, top};
-ghost use Rattle.expansion.specs.Phases.{in_arg, by_word, in_use, in_input, Read};
+ghost use Rattle.expansion.specs.Phases.{on_arg, by_word, in_use, in_input, Read};
 
 use crate::invocation::DefineInvocation;
 use crate::processor::MacroProcessor;
@@ -14,18 +14,19 @@ use stores::span::Span;
 use tokens::fault::{Step, StepExit};
 use tokens::token::Token;
 
-impl MacroProcessor {
-    // The next token of the argument that the top macro reads.
+impl DefineInvocation {
+    // The next token of the argument that is read in the body's place.
     fn read_argument(&mut self, s: Span, meter: &Meter) -> Step<Token>
-        requires { 0 < vec_len self.old.invocations }
-        ensures { Read (in_arg (read meter.now.working.items s) s self.old.invocations.items) (view self.old) result (view self.new) }
+        ensures value { result ≡ (on_arg (read meter.now.working.items s) s self.old).0 }
+        ensures after { self.new ≡ (on_arg (read meter.now.working.items s) s self.old).1 }
     {
-        let n = self.invocations.len();
         let x = meter.read(s);
-        self.invocations[n - 1].reading = x.map(|_| s.onward());
+        self.reading = x.map(|_| s.onward());
         x.ok_or(StepExit::Continue)
     }
+}
 
+impl MacroProcessor {
     // A token of the top macro's body: a parameter begins its argument.
     fn read_word<B: Book>(&mut self, x: Token, book: &B) -> Step<Token>
         requires some { 0 < vec_len self.old.invocations }
@@ -56,7 +57,7 @@ impl MacroProcessor {
         let n = self.invocations.len();
         let u = self.invocations[n - 1];
         if let Some(s) = u.reading {
-            return self.read_argument(s, meter);
+            return self.invocations[n - 1].read_argument(s, meter);
         }
         let Some(x) = book.token(u.handle, u.at) else {
             let _ = pop(&mut self.invocations);
