@@ -4,6 +4,7 @@
 -- meeting f a d p t: the phase f meets the step a: no answer yet, or the answer of the step, with what is left of the processor and the meter
 use Rattle.std.specs.Prelude.{◌≡◌, ℕ, ◌+◌, ◌-◌, Bool, true, false, cond, List, [], ◌∷◌, ◌++◌, map, length, take, Some, None, Ok, Err, Option, ◌==◌, nat_lt, slice_set}
 use Rattle.std.specs.List.{slice_get}
+use Rattle.std.specs.Option.{option_map}
 use Rattle.tokens.specs.declared.location.Location.{Location}
 use Rattle.tokens.specs.declared.token.Token.{Token}
 use Rattle.tokens.specs.declared.fault.Fault.{Fault}
@@ -47,9 +48,12 @@ on_arg None s u = (Err Continue, read_on u None)
 abbrev pub in_arg : Option Token → Span → List DefineInvocation → Answer × List DefineInvocation
 in_arg o s us = let e = on_arg o s (top us) in (e.0, topped us e.1)
 
+abbrev pub on_word : Option Span → Token → DefineInvocation → Answer × DefineInvocation
+on_word (Some s) x u = (Err Continue, read_on (body_on u) (Some s))
+on_word None x u = (Ok x, body_on u)
+
 abbrev pub at_param : Option ℕ → Token → List DefineInvocation → List Span → Answer × List DefineInvocation
-at_param (Some i) x us gs = (Err Continue, topped us (read_on (body_on (top us)) (Some (arg_at gs (length us - 1) i))))
-at_param None x us gs = (Ok x, topped us (body_on (top us)))
+at_param o x us gs = let e = on_word (option_map (λ i. arg_at gs (length us - 1) i) o) x (top us) in (e.0, topped us e.1)
 
 abbrev pub by_word : Option ℕ → Defs → Token → List DefineInvocation → List Span → Answer × List DefineInvocation
 by_word (Some n) d x us gs = at_param (place 0 n (map ident_of (mean d (top us).handle).params)) x us gs

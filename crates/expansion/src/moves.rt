@@ -3,7 +3,7 @@ ghost use Rattle.std.specs.Prelude.{◌≡◌, ℕ, ◌+◌, ◌<◌, ◌≤◌,
 ghost use Rattle.stores.specs.Tank.{tank, read};
 ghost use Rattle.stores.specs.Idents.{ident_of};
 ghost use Rattle.expansion.specs.Processor.{view, top};
-ghost use Rattle.expansion.specs.Phases.{on_arg, by_word, in_use, in_input, Read};
+ghost use Rattle.expansion.specs.Phases.{on_arg, on_word, in_use, in_input, Read};
 
 use crate::invocation::DefineInvocation;
 use crate::processor::MacroProcessor;
@@ -24,31 +24,23 @@ impl DefineInvocation {
         self.reading = x.map(|_| s.onward());
         x.ok_or(StepExit::Continue)
     }
+
+    // A token of the body: a parameter begins its argument.
+    fn read_word(&mut self, x: Token, argument: Option<Span>) -> Step<Token>
+        requires { self.old.at < 2048 }
+        ensures value { result ≡ (on_word argument x self.old).0 }
+        ensures after { self.new ≡ (on_word argument x self.old).1 }
+    {
+        self.at += 1;
+        if argument.is_none() {
+            return Ok(x);
+        }
+        self.reading = argument;
+        Err(StepExit::Continue)
+    }
 }
 
 impl MacroProcessor {
-    // A token of the top macro's body: a parameter begins its argument.
-    fn read_word<B: Book>(&mut self, x: Token, book: &B) -> Step<Token>
-        requires some { 0 < vec_len self.old.invocations }
-        requires short { (top (self.old.invocations.items)).at < 2048 }
-        ensures { Read (by_word (ident_of x) (B.Book.defs book.now) x self.old.invocations.items self.old.arguments.items) (view self.old) result (view self.new) }
-    {
-        let n = self.invocations.len();
-        let u = self.invocations[n - 1];
-        let at = u.at + 1;
-        match x.name().and_then(|name| book.parameter(u.handle, name)) {
-            Some(i) => {
-                let reading = Some(self.argument(n - 1, i));
-                self.invocations[n - 1] = DefineInvocation { at, reading, ..u };
-                Err(StepExit::Continue)
-            }
-            None => {
-                self.invocations[n - 1].at = at;
-                Ok(x)
-            }
-        }
-    }
-
     // The top macro is read on. Where its body is used up, it leaves the stack.
     pub fn read_invocation<B: Book>(&mut self, book: &B, meter: &Meter) -> Step<Token>
         requires { 0 < vec_len self.old.invocations }
@@ -63,7 +55,11 @@ impl MacroProcessor {
             let _ = pop(&mut self.invocations);
             return Err(StepExit::Continue);
         };
-        self.read_word(x, book)
+        let argument = x
+            .name()
+            .and_then(|name| book.parameter(u.handle, name))
+            .map(|i| self.argument(n - 1, i));
+        self.invocations[n - 1].read_word(x, argument)
     }
 
     // The next token of the argument that this level expands.
@@ -71,12 +67,8 @@ impl MacroProcessor {
         ensures value { result ≡ (in_input (read meter.now.working.items self.old.input) (view self.old)).0 }
         ensures after { view self.new ≡ (in_input (read meter.now.working.items self.old.input) (view self.old)).1 }
     {
-        match meter.read(self.input) {
-            Some(x) => {
-                self.input = self.input.onward();
-                Ok(x)
-            }
-            None => Err(StepExit::Finished),
-        }
+        let x = meter.read(self.input).ok_or(StepExit::Finished)?;
+        self.input = self.input.onward();
+        Ok(x)
     }
 }
