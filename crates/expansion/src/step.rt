@@ -1,16 +1,15 @@
 // A move, a turn and a step of the processor over any feed.
-ghost use Rattle.std.specs.Prelude.{◌≡◌, ℕ, ◌+◌, ◌<◌, ◌≤◌};
+ghost use Rattle.std.specs.Prelude.{◌≡◌, ℕ, ◌+◌, ◌<◌, ◌≤◌, OnOk};
 ghost use Rattle.stores.specs.Tank.{tank};
 ghost use Rattle.expansion.specs.Processor.{view};
 ghost use Rattle.expansion.specs.Sane.{Holds};
 ghost use Rattle.expansion.specs.Moved.{Moved, Pays, PaysFor};
 
 use crate::invocation::Phase;
-use crate::phases::fail;
 use crate::processor::MacroProcessor;
 use books::Feed;
 use stores::meter::Meter;
-use tokens::fault::Step;
+use tokens::fault::{Fault, Layer, Step};
 use tokens::token::{Integer, Token, TokenValue};
 use tokens::words::LINE_MACRO;
 
@@ -54,20 +53,24 @@ impl MacroProcessor {
         })
     }
 
-    // One move, once it is granted: what was held back is met first.
-    pub fn move_on<F: Feed>(&mut self, feed: &mut F, meter: &mut Meter) -> Step<Token>
-        ensures { Moved (F.Book.defs feed.old) (view self.old) (tank meter.old) (F.Book.defs feed.new) (view self.new) (tank meter.new) }
+    // One move, if one is granted: what was held back is met first.
+    pub fn move_on<F: Feed>(
+        &mut self,
+        feed: &mut F,
+        meter: &mut Meter,
+    ) -> Result<Step<Token>, Fault>
+        ensures moved { Moved (F.Book.defs feed.old) (view self.old) (tank meter.old) (F.Book.defs feed.new) (view self.new) (tank meter.new) }
+        ensures pays { OnOk result (meter.old.moves < meter.new.moves) }
     {
-        match self.phase {
-            Phase::Held(step) => {
-                self.phase = Phase::Plain;
-                step
-            }
-            _ => {
-                let step = self.step_internal(feed, meter);
-                self.number_line(step, feed)
-            }
+        meter
+            .spend()
+            .map_err(|error| Fault::new(error, feed.place(), Layer::Expansion))?;
+        if let Phase::Held(step) = self.phase {
+            self.phase = Phase::Plain;
+            return Ok(step);
         }
+        let step = self.step_internal(feed, meter);
+        Ok(self.number_line(step, feed))
     }
 
     // One turn: a move, and what the phase makes of it. No answer means that the step goes on.
@@ -76,11 +79,10 @@ impl MacroProcessor {
         ensures moved { Moved (F.Book.defs feed.old) (view self.old) (tank meter.old) (F.Book.defs feed.new) (view self.new) (tank meter.new) }
         ensures pays { Pays result (tank meter.old) (tank meter.new) }
     {
-        if let Err(error) = meter.spend() {
-            return Some(fail(error, feed.place()));
+        match self.move_on(feed, meter) {
+            Ok(met) => self.meet(met, feed, meter),
+            Err(fault) => Some(Err(fault.into())),
         }
-        let met = self.move_on(feed, meter);
-        self.meet(met, feed, meter)
     }
 
     // One step: turns, until one of them answers.
