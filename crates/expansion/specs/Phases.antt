@@ -68,7 +68,7 @@ in_use (Some s) d ws us gs = in_arg (read ws s) s us
 in_use None d ws us gs = in_body (slice_get (mean d (top us).handle).body (top us).at) d us gs
 
 abbrev pub in_input : Option Token → Proc → Answer × Proc
-in_input (Some x) p = (Ok x, fed p (onward p.input))
+in_input (Some x) p = (Ok x, fed p (onward p.level.input))
 in_input None p = (Err Finished, p)
 
 -- ----- what a phase makes of it -----
@@ -82,7 +82,7 @@ quiet bs = cond (length bs == 0) (Some (Err Continue)) None
 -- the macro goes on the stack, with the first k arguments of the level's call
 abbrev pub entered : Proc → ℕ → ℕ → ℕ → Option Answer × Proc
 entered p n h k =
-    (quiet p.below, record { phase = Plain; input = p.input; start = p.start; line = p.line; below = p.below; uses = p.uses ++ record { name = n; handle = h; at = 0; reading = None } ∷ []; spans = copied p.spans (slot_of_call p.below) (length p.uses) k })
+    (quiet p.below, record p { phase = Plain; uses = p.uses ++ record { name = n; handle = h; at = 0; reading = None } ∷ []; spans = copied p.spans (slot_of_call p.below) (length p.uses) k })
 
 -- a token passes: out of the processor, or into the argument that this level expands
 abbrev pub passed : Proc → Tank → Token → Out
@@ -123,13 +123,13 @@ abbrev pub parted : Proc → Call → ℕ → Proc
 parted p c k = argued p (with_arg p.spans (slot_of_call p.below) c.count (record { from = c.from; to = k }))
 
 abbrev pub waiting : Proc → Call → ℕ → Pending
-waiting p c i = record { call = c; next = i; input = p.input; start = p.start; line = p.line; end = length p.uses }
+waiting p c i = record { call = c; next = i; level = p.level; end = length p.uses }
 
 -- the argument i is to be expanded, one level deeper
 abbrev pub descended : Proc → Tank → Call → ℕ → Out
 descended p t c i =
     cond (nat_lt (length p.below) 16)
-    (None, record { phase = Plain; input = arg_at p.spans (slot_of_call p.below) i; start = length t.building; line = 0; below = p.below ++ waiting p c i ∷ []; uses = p.uses; spans = p.spans }, t)
+    (None, record p { phase = Plain; level = record { input = arg_at p.spans (slot_of_call p.below) i; start = length t.building; line = 0 }; below = p.below ++ waiting p c i ∷ [] }, t)
     (Some (fault TooManyLevels c.callee.location), p, t)
 
 abbrev pub hollow : Span → Bool
@@ -162,7 +162,7 @@ gathered Comma d p t c x =
 
 -- the level below goes on, once the argument that it waits for is expanded
 abbrev pub resumed : Proc → Pending → Proc
-resumed p q = record { phase = Plain; input = q.input; start = q.start; line = q.line; below = take (length p.below - 1) p.below; uses = take q.end p.uses; spans = p.spans }
+resumed p q = record p { phase = Plain; level = q.level; below = take (length p.below - 1) p.below; uses = take q.end p.uses }
 
 abbrev pub filled : Proc → ℕ → Span → Proc
 filled p i s = argued p (with_arg p.spans (slot_of_call p.below) i s)
@@ -176,7 +176,7 @@ returned p t i c =
 abbrev pub finished : Proc → Tank → Out
 finished p t =
     cond (length p.below == 0) (Some (Err Finished), p, t)
-    (let q = lowest p.below in returned (filled (resumed p q) q.next (whole p.start t)) (shifted t p.start) q.next q.call)
+    (let q = lowest p.below in returned (filled (resumed p q) q.next (whole p.level.start t)) (shifted t p.level.start) q.next q.call)
 
 abbrev pub by_name : Option ℕ → Defs → Proc → Tank → Token → Out
 by_name (Some n) d p t x = begun d p t x n

@@ -64,11 +64,11 @@ impl MacroProcessor {
 
     // The next token of the argument that this level expands.
     pub fn read_input(&mut self, meter: &Meter) -> Step<Token>
-        ensures value { result ≡ (in_input (read meter.now.working.items self.old.input) (view self.old)).0 }
-        ensures after { view self.new ≡ (in_input (read meter.now.working.items self.old.input) (view self.old)).1 }
+        ensures value { result ≡ (in_input (read meter.now.working.items self.old.level.input) (view self.old)).0 }
+        ensures after { view self.new ≡ (in_input (read meter.now.working.items self.old.level.input) (view self.old)).1 }
     {
-        let x = meter.read(self.input).ok_or(StepExit::Finished)?;
-        self.input = self.input.onward();
+        let x = meter.read(self.level.input).ok_or(StepExit::Finished)?;
+        self.level.input = self.level.input.onward();
         Ok(x)
     }
 }

@@ -7,7 +7,7 @@ ghost use Rattle.expansion.specs.Sane.{Sane, Placed};
 ghost use Rattle.expansion.specs.Delimiters.{delimits};
 
 use crate::delimiter::Delimiter;
-use crate::invocation::{Call, Callee, DefineInvocation, Pending, Phase};
+use crate::invocation::{Call, Callee, DefineInvocation, Level, Pending, Phase};
 use crate::processor::{MAX_ARGUMENTS, MAX_INVOCATIONS, MAX_LEVELS, MacroProcessor};
 use books::Book;
 use std::cmp::Ordering;
@@ -107,7 +107,7 @@ impl MacroProcessor {
         ensures { view self.new ≡ starting (view self.old) line }
     {
         if !self.is_expanding_define() {
-            self.line = line;
+            self.level.line = line;
         }
     }
 
@@ -182,24 +182,22 @@ impl MacroProcessor {
     fn descend(&mut self, call: Call, next: usize, meter: &Meter) -> Option<Step<Token>>
         ensures { Made (descended (view self.old) (tank meter.now) call next) result (view self.new) (tank meter.now) }
     {
-        let slot = self.call_slot();
-        let part = self.argument(slot, next);
-        let end = self.invocations.len();
+        let level = Level {
+            input: self.argument(self.call_slot(), next),
+            start: meter.building.len(),
+            line: 0,
+        };
         let pending = Pending {
             call,
             next,
-            input: self.input,
-            start: self.start,
-            line: self.line,
-            end,
+            level: self.level,
+            end: self.invocations.len(),
         };
         let Ok(()) = push(&mut self.below, MAX_LEVELS, pending) else {
             return Some(fail(PreprocessorError::TooManyLevels, call.callee.location));
         };
         self.phase = Phase::Plain;
-        self.input = part;
-        self.start = meter.building.len();
-        self.line = 0;
+        self.level = level;
         None
     }
 
@@ -323,11 +321,9 @@ impl MacroProcessor {
         let Some(q) = self.below.pop() else {
             return Some(Err(StepExit::Finished));
         };
-        let part = meter.shift(self.start);
+        let part = meter.shift(self.level.start);
         self.phase = Phase::Plain;
-        self.input = q.input;
-        self.start = q.start;
-        self.line = q.line;
+        self.level = q.level;
         self.invocations.truncate(q.end);
         let slot = self.call_slot();
         self.set_argument(slot, q.next, part);

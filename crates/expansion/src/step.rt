@@ -34,7 +34,7 @@ impl MacroProcessor {
             return Ok(token);
         };
         let line = if self.is_expanding_define() {
-            self.line
+            self.level.line
         } else {
             token.location.line
         };

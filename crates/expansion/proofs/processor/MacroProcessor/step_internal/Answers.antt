@@ -19,4 +19,4 @@ pub returns-else-is_empty : goal.returns-else-is_empty
 returns-else-is_empty g c =
     let p = c.args.self.now in
     let m = c.args.meter.now in
-    input_moved _ (view p) _ (tank m) (read (vec_items m.working) p.input) c.read_input.ensures.after
+    input_moved _ (view p) _ (tank m) (read (vec_items m.working) p.level.input) c.read_input.ensures.after
