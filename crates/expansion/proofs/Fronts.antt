@@ -40,12 +40,12 @@ record Stays (b : ℕ) (t : Tank) (w : Out) : Type 0 where
 
 module _ (b : ℕ) (t : Tank) where
   -- nothing is stored
-  none : (a : Option Answer) (p q : Proc) → Above b p t → q.below ≡ p.below → q.start ≡ p.start → Stays b t (a, q, t)
+  none : (a : Option Answer) (p q : Proc) → Above b p t → q.below ≡ p.below → q.level.start ≡ p.level.start → Stays b t (a, q, t)
   none a p q h e f = record {
     above = record {
       long = h.long;
       here = λ l. subst (λ k. b ≤ k) (sym f) (h.here (subst (λ bs. 0 < length bs) e l));
-      deep = λ i o l. subst (λ bs. b ≤ (get_or bs i idle).start) (sym e) (h.deep i o (subst (λ bs. i < length bs) e l));
+      deep = λ i o l. subst (λ bs. b ≤ (get_or bs i idle).level.start) (sym e) (h.deep i o (subst (λ bs. i < length bs) e l));
     };
     fronts = same b t;
     moves = refl;
@@ -67,7 +67,7 @@ module _ (b : ℕ) (t : Tank) where
   begun_stays : (d : Defs) (p : Proc) (x : Token) (n : ℕ) → Above b p t → Stays b t (begun d p t x n)
   begun_stays d p x n h = by_test (Stays b t) (barred p.uses n) _ _ (λ _. passed_stays p x h) (λ _. at (find d n))
     where
-      go : (k : ℕ) (q : Proc) → q.below ≡ p.below → q.start ≡ p.start → Stays b t (cond (mean d k).function (None, phased q (Met (record { name = n; handle = k; location = x.location })), t) ((entered q n k 0).0, (entered q n k 0).1, t))
+      go : (k : ℕ) (q : Proc) → q.below ≡ p.below → q.level.start ≡ p.level.start → Stays b t (cond (mean d k).function (None, phased q (Met (record { name = n; handle = k; location = x.location })), t) ((entered q n k 0).0, (entered q n k 0).1, t))
       go k q e f = by_test (Stays b t) (mean d k).function _ _ (λ _. none _ p _ h e f) (λ _. none _ p _ h e f)
 
       at : (o : Option ℕ) → Stays b t (found o d p t x n)
@@ -82,12 +82,12 @@ module _ (b : ℕ) (t : Tank) where
       (λ _. record { above = record { long = h.long; here = λ _. h.long; deep = deeper }; fronts = same b t; moves = refl; budget = refl })
       (λ _. none _ p p h refl refl)
     where
-      deeper : (j : ℕ) → 0 < j → j < length (p.below ++ waiting p c i ∷ []) → b ≤ (get_or (p.below ++ waiting p c i ∷ []) j idle).start
+      deeper : (j : ℕ) → 0 < j → j < length (p.below ++ waiting p c i ∷ []) → b ≤ (get_or (p.below ++ waiting p c i ∷ []) j idle).level.start
       deeper j o l =
           ⊎_elim
-          (λ inside. subst (λ x. b ≤ x.start) (sym (get_or_append_left p.below (waiting p c i ∷ []) idle j inside)) (h.deep j o inside))
+          (λ inside. subst (λ x. b ≤ x.level.start) (sym (get_or_append_left p.below (waiting p c i ∷ []) idle j inside)) (h.deep j o inside))
           (λ last. let k : length p.below ≡ j = omega (arith, length_push p.below (waiting p c i)) in
-          subst (λ x. b ≤ x.start) (sym (get_or_push p.below (waiting p c i) idle j k)) (h.here (omega arith)))
+          subst (λ x. b ≤ x.level.start) (sym (get_or_push p.below (waiting p c i) idle j k)) (h.here (omega arith)))
           (order j (length p.below))
 
   counted_stays : (p : Proc) (c : Call) (a : ℕ) → Above b p t → Stays b t (counted p t c a)
@@ -137,22 +137,22 @@ finished_stays b p t h =
     (λ e.
     let o : 0 < length p.below = omega (arith, eqb-false _ 0 e) in
     let q = lowest p.below in
-    let w = returned_stays b (filled (resumed p q) q.next (whole p.start t)) (shifted t p.start) q.next q.call (up o) in
-    record { above = w.above; fronts = joined b t (shifted t p.start) _ (moved o) w.fronts; moves = w.moves; budget = w.budget })
+    let w = returned_stays b (filled (resumed p q) q.next (whole p.level.start t)) (shifted t p.level.start) q.next q.call (up o) in
+    record { above = w.above; fronts = joined b t (shifted t p.level.start) _ (moved o) w.fronts; moves = w.moves; budget = w.budget })
   where
-    moved : 0 < length p.below → Fronts b t (shifted t p.start)
+    moved : 0 < length p.below → Fronts b t (shifted t p.level.start)
     moved o = record {
-      working = take_at t.working (drop p.start t.building) (length t.working) refl;
-      building = take-take b p.start t.building (h.here o);
+      working = take_at t.working (drop p.level.start t.building) (length t.working) refl;
+      building = take-take b p.level.start t.building (h.here o);
     }
 
-    up : 0 < length p.below → Above b (filled (resumed p (lowest p.below)) (lowest p.below).next (whole p.start t)) (shifted t p.start)
+    up : 0 < length p.below → Above b (filled (resumed p (lowest p.below)) (lowest p.below).next (whole p.level.start t)) (shifted t p.level.start)
     up o = record {
-      long = omega (arith, length-take p.start t.building, h.long, h.here o);
+      long = omega (arith, length-take p.level.start t.building, h.long, h.here o);
       here = λ l. h.deep (length p.below - 1) (omega (arith, l, length-take (length p.below - 1) p.below)) (omega arith);
       deep = λ i z l.
           let s : i < length p.below - 1 = omega (arith, l, length-take (length p.below - 1) p.below) in
-          subst (λ x. b ≤ x.start) (sym (get_or-take (length p.below - 1) p.below i idle s)) (h.deep i z (omega arith));
+          subst (λ x. b ≤ x.level.start) (sym (get_or-take (length p.below - 1) p.below i idle s)) (h.deep i z (omega arith));
     }
 
 meeting_stays : (b : ℕ) (f : Phase) (a : Answer) (d : Defs) (p : Proc) (t : Tank) → Above b p t → Stays b t (meeting f a d p t)
@@ -196,7 +196,7 @@ pub begun_went : (d : Defs) (p : Proc) (t : Tank) (x : Token) (n : ℕ) → Went
 begun_went d p t x n = staying p t (begun d p t x n) (λ b h. begun_stays b t d p x n h)
 
 -- nothing is stored, and the levels stay
-pub still : (p q : Proc) (t : Tank) → q.below ≡ p.below → q.start ≡ p.start → Went p t q t
+pub still : (p q : Proc) (t : Tank) → q.below ≡ p.below → q.level.start ≡ p.level.start → Went p t q t
 still p q t e f = staying p t (None, q, t) (λ b h. none b t None p q h e f)
 
 pub went_on : (p : Proc) (t : Tank) (q : Proc) (u : Tank) (r : Proc) (v : Tank) → Went p t q u → Went q u r v → Went p t r v

@@ -78,12 +78,12 @@ module _ (d : Defs) where
       by_test Good (eqb (length p.below) 0) _ _ (λ _. w)
       (λ b. let o : 0 < length p.below = omega (arith, eqb-false _ 0 b) in back (resumed_sane d p.uses p.below w.0 o) (resumed_free d p.uses p.below w.0 o))
     where
-      back : Sane d (take (lowest p.below).end p.uses) (take (length p.below - 1) p.below) → FreeOf d (take (lowest p.below).end p.uses) (lowest p.below).call.callee → Good (returned (filled (resumed p (lowest p.below)) (lowest p.below).next (whole p.start t)) (shifted t p.start) (lowest p.below).next (lowest p.below).call)
+      back : Sane d (take (lowest p.below).end p.uses) (take (length p.below - 1) p.below) → FreeOf d (take (lowest p.below).end p.uses) (lowest p.below).call.callee → Good (returned (filled (resumed p (lowest p.below)) (lowest p.below).next (whole p.level.start t)) (shifted t p.level.start) (lowest p.below).next (lowest p.below).call)
       back s f =
-          let q = filled (resumed p (lowest p.below)) (lowest p.below).next (whole p.start t) in
+          let q = filled (resumed p (lowest p.below)) (lowest p.below).next (whole p.level.start t) in
           let c = (lowest p.below).call in
           by_test Good (ltb ((lowest p.below).next + 1) c.count) _ _
-          (λ _. descended_holds q (shifted t p.start) c ((lowest p.below).next + 1) (s, tt) f)
+          (λ _. descended_holds q (shifted t p.level.start) c ((lowest p.below).next + 1) (s, tt) f)
           (λ _. entered_holds q c.callee.name c.callee.handle c.count s f)
 
   holding_holds : (p : Proc) (t : Tank) (q : Callee) (a : Answer) → Holds d p → Good (holding p t q a)

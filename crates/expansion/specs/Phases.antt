@@ -4,6 +4,7 @@
 -- meeting f a d p t: the phase f meets the step a: no answer yet, or the answer of the step, with what is left of the processor and the meter
 use Rattle.std.specs.Prelude.{◌≡◌, ℕ, ◌+◌, ◌-◌, Bool, true, false, cond, List, [], ◌∷◌, ◌++◌, map, length, take, Some, None, Ok, Err, Option, ◌==◌, nat_lt, slice_set}
 use Rattle.std.specs.List.{slice_get}
+use Rattle.std.specs.Option.{option_map}
 use Rattle.tokens.specs.declared.location.Location.{Location}
 use Rattle.tokens.specs.declared.token.Token.{Token}
 use Rattle.tokens.specs.declared.fault.Fault.{Fault}
@@ -40,13 +41,19 @@ body_on u = record { name = u.name; handle = u.handle; at = u.at + 1; reading = 
 abbrev pub topped : List DefineInvocation → DefineInvocation → List DefineInvocation
 topped us u = slice_set us (length us - 1) u
 
+abbrev pub on_arg : Option Token → Span → DefineInvocation → Answer × DefineInvocation
+on_arg (Some x) s u = (Ok x, read_on u (Some (onward s)))
+on_arg None s u = (Err Continue, read_on u None)
+
 abbrev pub in_arg : Option Token → Span → List DefineInvocation → Answer × List DefineInvocation
-in_arg (Some x) s us = (Ok x, topped us (read_on (top us) (Some (onward s))))
-in_arg None s us = (Err Continue, topped us (read_on (top us) None))
+in_arg o s us = let e = on_arg o s (top us) in (e.0, topped us e.1)
+
+abbrev pub on_word : Option Span → Token → DefineInvocation → Answer × DefineInvocation
+on_word (Some s) x u = (Err Continue, read_on (body_on u) (Some s))
+on_word None x u = (Ok x, body_on u)
 
 abbrev pub at_param : Option ℕ → Token → List DefineInvocation → List Span → Answer × List DefineInvocation
-at_param (Some i) x us gs = (Err Continue, topped us (read_on (body_on (top us)) (Some (arg_at gs (length us - 1) i))))
-at_param None x us gs = (Ok x, topped us (body_on (top us)))
+at_param o x us gs = let e = on_word (option_map (λ i. arg_at gs (length us - 1) i) o) x (top us) in (e.0, topped us e.1)
 
 abbrev pub by_word : Option ℕ → Defs → Token → List DefineInvocation → List Span → Answer × List DefineInvocation
 by_word (Some n) d x us gs = at_param (place 0 n (map ident_of (mean d (top us).handle).params)) x us gs
@@ -61,7 +68,7 @@ in_use (Some s) d ws us gs = in_arg (read ws s) s us
 in_use None d ws us gs = in_body (slice_get (mean d (top us).handle).body (top us).at) d us gs
 
 abbrev pub in_input : Option Token → Proc → Answer × Proc
-in_input (Some x) p = (Ok x, fed p (onward p.input))
+in_input (Some x) p = (Ok x, fed p (onward p.level.input))
 in_input None p = (Err Finished, p)
 
 -- ----- what a phase makes of it -----
@@ -75,7 +82,7 @@ quiet bs = cond (length bs == 0) (Some (Err Continue)) None
 -- the macro goes on the stack, with the first k arguments of the level's call
 abbrev pub entered : Proc → ℕ → ℕ → ℕ → Option Answer × Proc
 entered p n h k =
-    (quiet p.below, record { phase = Plain; input = p.input; start = p.start; line = p.line; below = p.below; uses = p.uses ++ record { name = n; handle = h; at = 0; reading = None } ∷ []; spans = copied p.spans (slot_of_call p.below) (length p.uses) k })
+    (quiet p.below, record p { phase = Plain; uses = p.uses ++ record { name = n; handle = h; at = 0; reading = None } ∷ []; spans = copied p.spans (slot_of_call p.below) (length p.uses) k })
 
 -- a token passes: out of the processor, or into the argument that this level expands
 abbrev pub passed : Proc → Tank → Token → Out
@@ -116,13 +123,13 @@ abbrev pub parted : Proc → Call → ℕ → Proc
 parted p c k = argued p (with_arg p.spans (slot_of_call p.below) c.count (record { from = c.from; to = k }))
 
 abbrev pub waiting : Proc → Call → ℕ → Pending
-waiting p c i = record { call = c; next = i; input = p.input; start = p.start; line = p.line; end = length p.uses }
+waiting p c i = record { call = c; next = i; level = p.level; end = length p.uses }
 
 -- the argument i is to be expanded, one level deeper
 abbrev pub descended : Proc → Tank → Call → ℕ → Out
 descended p t c i =
     cond (nat_lt (length p.below) 16)
-    (None, record { phase = Plain; input = arg_at p.spans (slot_of_call p.below) i; start = length t.building; line = 0; below = p.below ++ waiting p c i ∷ []; uses = p.uses; spans = p.spans }, t)
+    (None, record p { phase = Plain; level = record { input = arg_at p.spans (slot_of_call p.below) i; start = length t.building; line = 0 }; below = p.below ++ waiting p c i ∷ [] }, t)
     (Some (fault TooManyLevels c.callee.location), p, t)
 
 abbrev pub hollow : Span → Bool
@@ -155,7 +162,7 @@ gathered Comma d p t c x =
 
 -- the level below goes on, once the argument that it waits for is expanded
 abbrev pub resumed : Proc → Pending → Proc
-resumed p q = record { phase = Plain; input = q.input; start = q.start; line = q.line; below = take (length p.below - 1) p.below; uses = take q.end p.uses; spans = p.spans }
+resumed p q = record p { phase = Plain; level = q.level; below = take (length p.below - 1) p.below; uses = take q.end p.uses }
 
 abbrev pub filled : Proc → ℕ → Span → Proc
 filled p i s = argued p (with_arg p.spans (slot_of_call p.below) i s)
@@ -169,7 +176,7 @@ returned p t i c =
 abbrev pub finished : Proc → Tank → Out
 finished p t =
     cond (length p.below == 0) (Some (Err Finished), p, t)
-    (let q = lowest p.below in returned (filled (resumed p q) q.next (whole p.start t)) (shifted t p.start) q.next q.call)
+    (let q = lowest p.below in returned (filled (resumed p q) q.next (whole p.level.start t)) (shifted t p.level.start) q.next q.call)
 
 abbrev pub by_name : Option ℕ → Defs → Proc → Tank → Token → Out
 by_name (Some n) d p t x = begun d p t x n

@@ -10,6 +10,7 @@ use Rattle.tokens.specs.declared.fault.PreprocessorError.{PreprocessorError}
 use Rattle.tokens.specs.declared.fault.Layer.TheVariants.{Expansion}
 use Rattle.tokens.specs.declared.fault.StepExit.{StepExit}
 use Rattle.tokens.specs.declared.fault.StepExit.TheVariants.{Error}
+use Rattle.tokens.specs.Faults.{raised}
 use Rattle.tokens.specs.Places.{origin}
 use Rattle.stores.specs.declared.span.Span.{Span}
 use Rattle.stores.specs.Spans.{nowhere}
@@ -18,41 +19,40 @@ use Rattle.expansion.specs.declared.invocation.Callee.{Callee}
 use Rattle.expansion.specs.declared.invocation.Call.{Call}
 use Rattle.expansion.specs.declared.invocation.Phase.{Phase}
 use Rattle.expansion.specs.declared.invocation.Phase.TheVariants.{Plain}
+use Rattle.expansion.specs.declared.invocation.Level.{Level}
 use Rattle.expansion.specs.declared.invocation.Pending.{Pending}
 use Rattle.expansion.specs.declared.processor.MacroProcessor.{MacroProcessor}
 
 pub record Proc : Type 0 where
   pub phase : Phase
-  pub input : Span
-  pub start : ℕ
-  pub line : ℕ
+  pub level : Level
   pub below : List Pending
   pub uses : List DefineInvocation
   pub spans : List Span
 
 abbrev pub view : MacroProcessor → Proc
-view p = record { phase = p.phase; input = p.input; start = p.start; line = p.line; below = vec_items p.below; uses = vec_items p.invocations; spans = vec_items p.arguments }
+view p = record { phase = p.phase; level = p.level; below = vec_items p.below; uses = vec_items p.invocations; spans = vec_items p.arguments }
 
 abbrev pub phased : Proc → Phase → Proc
-phased p f = record { phase = f; input = p.input; start = p.start; line = p.line; below = p.below; uses = p.uses; spans = p.spans }
+phased p f = record p { phase = f }
 
 abbrev pub used : Proc → List DefineInvocation → Proc
-used p us = record { phase = p.phase; input = p.input; start = p.start; line = p.line; below = p.below; uses = us; spans = p.spans }
+used p us = record p { uses = us }
 
 abbrev pub fed : Proc → Span → Proc
-fed p s = record { phase = p.phase; input = s; start = p.start; line = p.line; below = p.below; uses = p.uses; spans = p.spans }
+fed p s = record p { level = record p.level { input = s } }
 
 abbrev pub lined : Proc → ℕ → Proc
-lined p n = record { phase = p.phase; input = p.input; start = p.start; line = n; below = p.below; uses = p.uses; spans = p.spans }
+lined p n = record p { level = record p.level { line = n } }
 
 abbrev pub argued : Proc → List Span → Proc
-argued p gs = record { phase = p.phase; input = p.input; start = p.start; line = p.line; below = p.below; uses = p.uses; spans = gs }
+argued p gs = record p { spans = gs }
 
 abbrev pub Answer : Type 0
 Answer = Result Token StepExit
 
 abbrev pub fault : PreprocessorError → Location → Answer
-fault e l = Err (Error (record { error = e; location = l; layer = Expansion; directive = None }))
+fault e l = Err (Error (raised Expansion e l))
 
 abbrev pub blank : DefineInvocation
 blank = record { name = 0; handle = 0; at = 0; reading = None }
@@ -60,8 +60,12 @@ blank = record { name = 0; handle = 0; at = 0; reading = None }
 abbrev pub no_call : Call
 no_call = record { callee = record { name = 0; handle = 0; location = origin }; paren = origin; last = origin; nesting = 0; from = 0; count = 0 }
 
+-- a level that reads nothing
+abbrev pub resting : Level
+resting = record { input = nowhere; start = 0; line = 0 }
+
 abbrev pub idle : Pending
-idle = record { call = no_call; next = 0; input = nowhere; start = 0; line = 0; end = 0 }
+idle = record { call = no_call; next = 0; level = resting; end = 0 }
 
 abbrev pub top : List DefineInvocation → DefineInvocation
 top us = slice_index_or us (length us - 1) blank
@@ -82,4 +86,4 @@ named w = record { value = Ident w.name; location = w.location }
 
 -- nothing is in expansion and nothing is held back; what the slots of arguments hold is of no account
 abbrev pub fresh : List Span → Proc
-fresh gs = record { phase = Plain; input = nowhere; start = 0; line = 0; below = []; uses = []; spans = gs }
+fresh gs = record { phase = Plain; level = resting; below = []; uses = []; spans = gs }

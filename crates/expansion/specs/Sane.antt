@@ -56,8 +56,8 @@ Placed bs = 0 < length bs → (lowest bs).end < 513
 
 pub record Above (b : ℕ) (p : Proc) (t : Tank) : Type 0 where
   pub long : b ≤ length t.building
-  pub here : 0 < length p.below → b ≤ p.start
-  pub deep : (i : ℕ) → 0 < i → i < length p.below → b ≤ (slice_index_or p.below i idle).start
+  pub here : 0 < length p.below → b ≤ p.level.start
+  pub deep : (i : ℕ) → 0 < i → i < length p.below → b ≤ (slice_index_or p.below i idle).level.start
 
 pub record Fronts (b : ℕ) (t u : Tank) : Type 0 where
   pub working : take (length t.working) u.working ≡ t.working

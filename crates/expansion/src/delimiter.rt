@@ -5,7 +5,7 @@ ghost use Rattle.expansion.specs.Delimiters.{delimits};
 use tokens::punct::Punct;
 use tokens::token::TokenValue;
 
-#[derive(Clone, Copy)]
+#[derive(Clone, Copy, PartialEq, Eq)]
 pub enum Delimiter {
     Open,
     Close,
@@ -13,13 +13,15 @@ pub enum Delimiter {
     Other,
 }
 
-pub fn delimiter_of(value: TokenValue) -> Delimiter
-    ensures { result ≡ delimits value }
-{
-    match value {
-        TokenValue::Punct(Punct::LeftParen) => Delimiter::Open,
-        TokenValue::Punct(Punct::RightParen) => Delimiter::Close,
-        TokenValue::Punct(Punct::Comma) => Delimiter::Comma,
-        _ => Delimiter::Other,
+impl From<TokenValue> for Delimiter {
+    ghost from_gives = { λ value delimiter. delimiter ≡ delimits value };
+
+    fn from(value: TokenValue) -> Delimiter {
+        match value {
+            TokenValue::Punct(Punct::LeftParen) => Delimiter::Open,
+            TokenValue::Punct(Punct::RightParen) => Delimiter::Close,
+            TokenValue::Punct(Punct::Comma) => Delimiter::Comma,
+            _ => Delimiter::Other,
+        }
     }
 }

@@ -45,14 +45,23 @@ pub enum Phase {
     Gather(Call),
 }
 
+// What a level reads and where it writes.
+#[derive(Clone, Copy, Default)]
+pub struct Level {
+    // what is left of the argument that it expands; level 0 reads the feed
+    pub input: Span,
+    // where its output begins
+    pub start: usize,
+    // the line that `__LINE__` shows within a macro
+    pub line: u32,
+}
+
 // A level that waits while the argument `next` of its call is expanded one level deeper.
 #[derive(Clone, Copy)]
 pub struct Pending {
     pub call: Call,
     pub next: usize,
-    pub input: Span,
-    pub start: usize,
-    pub line: u32,
+    pub level: Level,
     // how many macros were in expansion when it began to wait
     pub end: usize,
 }

@@ -5,7 +5,6 @@ ghost use Rattle.expansion.specs.Processor.{view};
 ghost use Rattle.expansion.specs.Sane.{Holds};
 ghost use Rattle.expansion.specs.Moved.{Moved, PaysFor};
 
-use crate::phases::fail;
 use crate::processor::MacroProcessor;
 use books::Feed;
 use stores::meter::Meter;
@@ -18,10 +17,7 @@ impl MacroProcessor {
         ensures moved { Moved (F.Book.defs feed.old) (view self.old) (tank meter.old) (F.Book.defs feed.new) (view self.new) (tank meter.new) }
         ensures pays { PaysFor result (tank meter.old) (tank meter.new) }
     {
-        if let Err(error) = meter.spend() {
-            return fail(error, feed.place());
-        }
-        self.move_on(feed, meter)
+        self.move_on(feed, meter)?
     }
 
     // A name passes, and its token is the answer; or it starts an expansion, and the answer is to go on.

@@ -1,113 +1,74 @@
 // One move: the top macro is read on, or else the input of the level.
 ghost use Rattle.std.specs.Prelude.{◌≡◌, ℕ, ◌+◌, ◌<◌, ◌≤◌, vec_len};
-ghost use Rattle.std.specs.List.{slice_get};
 ghost use Rattle.stores.specs.Tank.{tank, read};
 ghost use Rattle.stores.specs.Idents.{ident_of};
-ghost use Rattle.books.specs.Book.{mean};
 ghost use Rattle.expansion.specs.Processor.{view, top};
-ghost use Rattle.expansion.specs.Phases.{in_arg, by_word, in_body, in_use, in_input, Read};
+ghost use Rattle.expansion.specs.Phases.{on_arg, on_word, in_use, in_input, Read};
 
 use crate::invocation::DefineInvocation;
 use crate::processor::MacroProcessor;
-use books::{Book, Handle};
+use books::Book;
 use stores::meter::Meter;
-use stores::records::pop;
+use stores::records::{Named, pop};
 use stores::span::Span;
 use tokens::fault::{Step, StepExit};
-use tokens::token::{Token, TokenValue};
+use tokens::token::Token;
+
+impl DefineInvocation {
+    // The next token of the argument that is read in the body's place.
+    fn read_argument(&mut self, s: Span, meter: &Meter) -> Step<Token>
+        ensures value { result ≡ (on_arg (read meter.now.working.items s) s self.old).0 }
+        ensures after { self.new ≡ (on_arg (read meter.now.working.items s) s self.old).1 }
+    {
+        let x = meter.read(s);
+        self.reading = x.map(|_| s.onward());
+        x.ok_or(StepExit::Continue)
+    }
+
+    // A token of the body: a parameter begins its argument.
+    fn read_word(&mut self, x: Token, argument: Option<Span>) -> Step<Token>
+        requires { self.old.at < 2048 }
+        ensures value { result ≡ (on_word argument x self.old).0 }
+        ensures after { self.new ≡ (on_word argument x self.old).1 }
+    {
+        self.at += 1;
+        if argument.is_none() {
+            return Ok(x);
+        }
+        self.reading = argument;
+        Err(StepExit::Continue)
+    }
+}
 
 impl MacroProcessor {
-    // The next token of the argument that the top macro reads.
-    fn read_argument(&mut self, s: Span, meter: &Meter) -> Step<Token>
-        requires { 0 < vec_len self.old.invocations }
-        ensures { Read (in_arg (read meter.now.working.items s) s self.old.invocations.items) (view self.old) result (view self.new) }
-    {
-        let n = self.invocations.len();
-        match meter.read(s) {
-            Some(x) => {
-                self.invocations[n - 1].reading = Some(s.onward());
-                Ok(x)
-            }
-            None => {
-                self.invocations[n - 1].reading = None;
-                Err(StepExit::Continue)
-            }
-        }
-    }
-
-    // A token of the top macro's body: a parameter begins its argument.
-    fn read_word<B: Book>(&mut self, x: Token, book: &B) -> Step<Token>
-        requires some { 0 < vec_len self.old.invocations }
-        requires short { (top (self.old.invocations.items)).at < 2048 }
-        ensures { Read (by_word (ident_of x) (B.Book.defs book.now) x self.old.invocations.items self.old.arguments.items) (view self.old) result (view self.new) }
-    {
-        let n = self.invocations.len();
-        let u = self.invocations[n - 1];
-        let at = u.at + 1;
-        match x.value {
-            TokenValue::Ident(name) => match book.parameter(u.handle, name) {
-                Some(i) => {
-                    let reading = Some(self.argument(n - 1, i));
-                    self.invocations[n - 1] = DefineInvocation {
-                        name: u.name,
-                        handle: u.handle,
-                        at,
-                        reading,
-                    };
-                    Err(StepExit::Continue)
-                }
-                None => {
-                    self.invocations[n - 1].at = at;
-                    Ok(x)
-                }
-            },
-            _ => {
-                self.invocations[n - 1].at = at;
-                Ok(x)
-            }
-        }
-    }
-
-    // The next token of the top macro's body; where it is used up, the macro leaves the stack.
-    fn read_body<B: Book>(&mut self, handle: Handle, at: usize, book: &B) -> Step<Token>
-        requires some { 0 < vec_len self.old.invocations }
-        requires here { handle ≡ (top (self.old.invocations.items)).handle }
-        requires there { at ≡ (top (self.old.invocations.items)).at }
-        ensures { Read (in_body (slice_get (mean (B.Book.defs book.now) handle).body at) (B.Book.defs book.now) self.old.invocations.items self.old.arguments.items) (view self.old) result (view self.new) }
-    {
-        match book.token(handle, at) {
-            Some(x) => self.read_word(x, book),
-            None => {
-                let _ = pop(&mut self.invocations);
-                Err(StepExit::Continue)
-            }
-        }
-    }
-
-    // The top macro is read on.
+    // The top macro is read on. Where its body is used up, it leaves the stack.
     pub fn read_invocation<B: Book>(&mut self, book: &B, meter: &Meter) -> Step<Token>
         requires { 0 < vec_len self.old.invocations }
         ensures { Read (in_use (top (self.old.invocations.items)).reading (B.Book.defs book.now) meter.now.working.items self.old.invocations.items self.old.arguments.items) (view self.old) result (view self.new) }
     {
         let n = self.invocations.len();
         let u = self.invocations[n - 1];
-        match u.reading {
-            Some(s) => self.read_argument(s, meter),
-            None => self.read_body(u.handle, u.at, book),
+        if let Some(s) = u.reading {
+            return self.invocations[n - 1].read_argument(s, meter);
         }
+        let Some(x) = book.token(u.handle, u.at) else {
+            let _ = pop(&mut self.invocations);
+            return Err(StepExit::Continue);
+        };
+        let argument = x
+            .name()
+            .and_then(|name| book.parameter(u.handle, name))
+            .map(|i| self.argument(n - 1, i));
+        self.invocations[n - 1].read_word(x, argument)
     }
 
     // The next token of the argument that this level expands.
     pub fn read_input(&mut self, meter: &Meter) -> Step<Token>
-        ensures value { result ≡ (in_input (read meter.now.working.items self.old.input) (view self.old)).0 }
-        ensures after { view self.new ≡ (in_input (read meter.now.working.items self.old.input) (view self.old)).1 }
+        ensures value { result ≡ (in_input (read meter.now.working.items self.old.level.input) (view self.old)).0 }
+        ensures after { view self.new ≡ (in_input (read meter.now.working.items self.old.level.input) (view self.old)).1 }
     {
-        match meter.read(self.input) {
-            Some(x) => {
-                self.input = self.input.onward();
-                Ok(x)
-            }
-            None => Err(StepExit::Finished),
-        }
+        let x = meter.read(self.level.input).ok_or(StepExit::Finished)?;
+        self.level.input = self.level.input.onward();
+        Ok(x)
     }
 }

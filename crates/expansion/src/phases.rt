@@ -1,26 +1,22 @@
 // What each phase makes of the step that it meets.
 ghost use Rattle.std.specs.Prelude.{◌≡◌, ℕ, ◌+◌, ◌<◌, ◌≤◌, length, Some, vec_len};
 ghost use Rattle.stores.specs.Tank.{tank};
-ghost use Rattle.expansion.specs.Processor.{view, base, expanding, fault};
+ghost use Rattle.expansion.specs.Processor.{view, base, expanding, named, fault};
 ghost use Rattle.expansion.specs.Phases.{barred, starting, quiet, entered, passed, begun, parted, split, reached, opened, descended, bare, counted, closed, storing, gathered, returned, finished, holding, spent, meeting, Made};
 ghost use Rattle.expansion.specs.Sane.{Sane, Placed};
 ghost use Rattle.expansion.specs.Delimiters.{delimits};
 
-use crate::delimiter::{Delimiter, delimiter_of};
-use crate::invocation::{Call, Callee, DefineInvocation, Pending, Phase};
-use crate::processor::MacroProcessor;
-use books::{Book, Handle};
+use crate::delimiter::Delimiter;
+use crate::invocation::{Call, Callee, DefineInvocation, Level, Pending, Phase};
+use crate::processor::{MAX_ARGUMENTS, MAX_INVOCATIONS, MAX_LEVELS, MacroProcessor};
+use books::Book;
+use std::cmp::Ordering;
 use stores::meter::Meter;
 use stores::records::{Named, find, push};
 use stores::span::Span;
 use tokens::fault::{Fault, Layer, PreprocessorError, Step, StepExit};
 use tokens::location::Location;
 use tokens::token::{Token, TokenValue};
-
-// At most this many levels wait, and at most this many macros are in expansion.
-const MAX_LEVELS: usize = 16;
-
-const MAX_INVOCATIONS: usize = 513;
 
 impl Named for DefineInvocation {
     ghost key = { λ u. Some u.name };
@@ -36,52 +32,53 @@ pub fn fail(error: PreprocessorError, location: Location) -> Step<Token>
     Err(Fault::new(error, location, Layer::Expansion).into())
 }
 
-// The current argument is whole: it ends at the mark.
-fn split(c: Call, location: Location, mark: usize) -> Call
-    ensures { result ≡ split c location mark }
-{
-    let count = if c.count < 33 { c.count + 1 } else { 33 };
-    Call {
-        callee: c.callee,
-        paren: c.paren,
-        last: location,
-        nesting: c.nesting,
-        from: mark,
-        count,
+impl Callee {
+    // The name that the call begins with.
+    fn token(self) -> Token
+        ensures { result ≡ named self }
+    {
+        Token {
+            value: TokenValue::Ident(self.name),
+            location: self.location,
+        }
+    }
+
+    fn opened(self, location: Location, from: usize) -> Call
+        ensures { result ≡ opened self location from }
+    {
+        Call {
+            callee: self,
+            paren: location,
+            last: location,
+            nesting: 0,
+            from,
+            count: 0,
+        }
     }
 }
 
-fn reached(c: Call, nesting: u32, location: Location) -> Call
-    ensures { result ≡ reached c nesting location }
-{
-    Call {
-        callee: c.callee,
-        paren: c.paren,
-        last: location,
-        nesting,
-        from: c.from,
-        count: c.count,
+impl Call {
+    // The current argument is whole: it ends at the mark.
+    fn split(self, location: Location, mark: usize) -> Call
+        ensures { result ≡ split self location mark }
+    {
+        Call {
+            last: location,
+            from: mark,
+            count: self.count.saturating_add(1).min(MAX_ARGUMENTS + 1),
+            ..self
+        }
     }
-}
 
-fn opened(callee: Callee, location: Location, from: usize) -> Call
-    ensures { result ≡ opened callee location from }
-{
-    Call {
-        callee,
-        paren: location,
-        last: location,
-        nesting: 0,
-        from,
-        count: 0,
+    fn reached(self, nesting: u32, location: Location) -> Call
+        ensures { result ≡ reached self nesting location }
+    {
+        Call {
+            last: location,
+            nesting,
+            ..self
+        }
     }
-}
-
-// Moves spent is never held back.
-fn is_spent(error: PreprocessorError) -> bool
-    ensures { result ≡ spent error }
-{
-    matches!(error, PreprocessorError::MovesSpent)
 }
 
 impl MacroProcessor {
@@ -89,8 +86,7 @@ impl MacroProcessor {
     pub fn base(&self) -> usize
         ensures { result ≡ base self.now.below.items }
     {
-        let n = self.below.len();
-        if n == 0 { 0 } else { self.below[n - 1].end }
+        self.below.last().map_or(0, |q| q.end)
     }
 
     pub fn is_expanding_define(&self) -> bool
@@ -111,7 +107,7 @@ impl MacroProcessor {
         ensures { view self.new ≡ starting (view self.old) line }
     {
         if !self.is_expanding_define() {
-            self.line = line;
+            self.level.line = line;
         }
     }
 
@@ -119,25 +115,21 @@ impl MacroProcessor {
     fn quiet(&self) -> Option<Step<Token>>
         ensures { result ≡ quiet self.now.below.items }
     {
-        if self.below.len() == 0 {
-            Some(Err(StepExit::Continue))
-        } else {
-            None
-        }
+        self.below.is_empty().then_some(Err(StepExit::Continue))
     }
 
     // The macro goes on the stack, with the first `count` arguments of this level's call.
-    fn enter(&mut self, name: u32, handle: Handle, count: usize) -> Option<Step<Token>>
+    fn enter(&mut self, callee: Callee, count: usize) -> Option<Step<Token>>
         requires { vec_len self.old.invocations < 513 }
-        ensures value { result ≡ (entered (view self.old) name handle count).0 }
-        ensures after { view self.new ≡ (entered (view self.old) name handle count).1 }
+        ensures value { result ≡ (entered (view self.old) callee.name callee.handle count).0 }
+        ensures after { view self.new ≡ (entered (view self.old) callee.name callee.handle count).1 }
     {
         let slot = self.call_slot();
         let place = self.invocations.len();
         self.copy_arguments(slot, place, count);
         let invocation = DefineInvocation {
-            name,
-            handle,
+            name: callee.name,
+            handle: callee.handle,
             at: 0,
             reading: None,
         };
@@ -150,13 +142,10 @@ impl MacroProcessor {
     fn pass(&self, x: Token, meter: &mut Meter) -> Option<Step<Token>>
         ensures { Made (passed (view self.now) (tank meter.old) x) result (view self.now) (tank meter.new) }
     {
-        if self.below.len() == 0 {
+        if self.below.is_empty() {
             return Some(Ok(x));
         }
-        match meter.build(x) {
-            Ok(()) => None,
-            Err(error) => Some(fail(error, x.location)),
-        }
+        meter.build(x).err().map(|error| fail(error, x.location))
     }
 
     // A name is met: it starts an expansion, may be a call, or passes.
@@ -177,39 +166,38 @@ impl MacroProcessor {
             return self.pass(x, meter);
         };
         self.note_line(x.location.line);
+        let callee = Callee {
+            name,
+            handle,
+            location: x.location,
+        };
         if book.is_function(handle) {
-            self.phase = Phase::Met(Callee {
-                name,
-                handle,
-                location: x.location,
-            });
+            self.phase = Phase::Met(callee);
             return None;
         }
-        self.enter(name, handle, 0)
+        self.enter(callee, 0)
     }
 
     // An argument is to be expanded, one level deeper.
     fn descend(&mut self, call: Call, next: usize, meter: &Meter) -> Option<Step<Token>>
         ensures { Made (descended (view self.old) (tank meter.now) call next) result (view self.new) (tank meter.now) }
     {
-        let slot = self.call_slot();
-        let part = self.argument(slot, next);
-        let end = self.invocations.len();
+        let level = Level {
+            input: self.argument(self.call_slot(), next),
+            start: meter.building.len(),
+            line: 0,
+        };
         let pending = Pending {
             call,
             next,
-            input: self.input,
-            start: self.start,
-            line: self.line,
-            end,
+            level: self.level,
+            end: self.invocations.len(),
         };
         let Ok(()) = push(&mut self.below, MAX_LEVELS, pending) else {
             return Some(fail(PreprocessorError::TooManyLevels, call.callee.location));
         };
         self.phase = Phase::Plain;
-        self.input = part;
-        self.start = meter.building.len();
-        self.line = 0;
+        self.level = level;
         None
     }
 
@@ -217,29 +205,21 @@ impl MacroProcessor {
     fn bare(&self, call: Call, arity: usize) -> bool
         ensures { result ≡ bare (view self.now) call arity }
     {
-        if arity == 0 && call.count == 1 {
-            let slot = self.call_slot();
-            let s = self.argument(slot, 0);
-            s.from == s.to
-        } else {
-            false
-        }
+        let s = self.argument(self.call_slot(), 0);
+        arity == 0 && call.count == 1 && s.from == s.to
     }
 
     // The arguments are counted.
     fn count(&mut self, call: Call, arity: usize, meter: &Meter) -> Option<Step<Token>>
         ensures { Made (counted (view self.old) (tank meter.now) call arity) result (view self.new) (tank meter.now) }
     {
-        if call.count > arity {
-            if self.bare(call, arity) {
-                self.descend(call, 0, meter)
-            } else {
-                Some(fail(PreprocessorError::TooManyDefineArguments, call.paren))
-            }
-        } else if call.count < arity {
-            Some(fail(PreprocessorError::TooFewDefineArguments, call.paren))
-        } else {
-            self.descend(call, 0, meter)
+        match call.count.cmp(&arity) {
+            Ordering::Greater if !self.bare(call, arity) => Some(fail(
+                PreprocessorError::TooManyDefineArguments,
+                call.paren,
+            )),
+            Ordering::Less => Some(fail(PreprocessorError::TooFewDefineArguments, call.paren)),
+            Ordering::Greater | Ordering::Equal => self.descend(call, 0, meter),
         }
     }
 
@@ -272,7 +252,7 @@ impl MacroProcessor {
         self.part(call, mark);
         self.note_line(location.line);
         self.count(
-            split(call, location, mark),
+            call.split(location, mark),
             book.arity(call.callee.handle),
             meter,
         )
@@ -303,32 +283,22 @@ impl MacroProcessor {
     ) -> Option<Step<Token>>
         ensures { Made (gathered (delimits x.value) (B.Book.defs book.now) (view self.old) (tank meter.old) call x) result (view self.new) (tank meter.new) }
     {
-        match delimiter_of(x.value) {
-            Delimiter::Open => {
-                if call.nesting < u32::MAX {
-                    self.keep(reached(call, call.nesting + 1, x.location), x, meter)
-                } else {
-                    Some(fail(PreprocessorError::IntegerOverflow, x.location))
-                }
+        match Delimiter::from(x.value) {
+            Delimiter::Open => match call.nesting.checked_add(1) {
+                Some(nesting) => self.keep(call.reached(nesting, x.location), x, meter),
+                None => Some(fail(PreprocessorError::IntegerOverflow, x.location)),
+            },
+            Delimiter::Close if call.nesting == 0 => self.close(call, x.location, book, meter),
+            Delimiter::Close => self.keep(call.reached(call.nesting - 1, x.location), x, meter),
+            Delimiter::Comma if call.nesting == 0 => {
+                let mark = meter.working.len();
+                self.part(call, mark);
+                self.phase = Phase::Gather(call.split(x.location, mark));
+                None
             }
-            Delimiter::Close => {
-                if call.nesting == 0 {
-                    self.close(call, x.location, book, meter)
-                } else {
-                    self.keep(reached(call, call.nesting - 1, x.location), x, meter)
-                }
+            Delimiter::Comma | Delimiter::Other => {
+                self.keep(call.reached(call.nesting, x.location), x, meter)
             }
-            Delimiter::Comma => {
-                if call.nesting == 0 {
-                    let mark = meter.working.len();
-                    self.part(call, mark);
-                    self.phase = Phase::Gather(split(call, x.location, mark));
-                    None
-                } else {
-                    self.keep(reached(call, call.nesting, x.location), x, meter)
-                }
-            }
-            Delimiter::Other => self.keep(reached(call, call.nesting, x.location), x, meter),
         }
     }
 
@@ -337,10 +307,10 @@ impl MacroProcessor {
         requires { vec_len self.old.invocations < 513 }
         ensures { Made (returned (view self.old) (tank meter.now) done call) result (view self.new) (tank meter.now) }
     {
-        if call.count > 0 && done < call.count - 1 {
-            return self.descend(call, done + 1, meter);
+        match done.checked_add(1) {
+            Some(next) if next < call.count => self.descend(call, next, meter),
+            _ => self.enter(call.callee, call.count),
         }
-        self.enter(call.callee.name, call.callee.handle, call.count)
     }
 
     // The input of this level is used up: the level below goes on.
@@ -351,11 +321,9 @@ impl MacroProcessor {
         let Some(q) = self.below.pop() else {
             return Some(Err(StepExit::Finished));
         };
-        let part = meter.shift(self.start);
+        let part = meter.shift(self.level.start);
         self.phase = Phase::Plain;
-        self.input = q.input;
-        self.start = q.start;
-        self.line = q.line;
+        self.level = q.level;
         self.invocations.truncate(q.end);
         let slot = self.call_slot();
         self.set_argument(slot, q.next, part);
@@ -367,13 +335,7 @@ impl MacroProcessor {
         ensures { Made (holding (view self.old) (tank meter.old) callee step) result (view self.new) (tank meter.new) }
     {
         self.phase = Phase::Held(step);
-        self.pass(
-            Token {
-                value: TokenValue::Ident(callee.name),
-                location: callee.location,
-            },
-            meter,
-        )
+        self.pass(callee.token(), meter)
     }
 
     // One match on what the processor is doing and what it meets.
@@ -387,42 +349,40 @@ impl MacroProcessor {
         ensures { Made (meeting self.old.phase met (B.Book.defs book.now) (view self.old) (tank meter.old)) result (view self.new) (tank meter.new) }
     {
         match (self.phase, met) {
-            (Phase::Plain, Ok(x)) => match x.value {
-                TokenValue::Ident(name) => self.begin(x, name, book, meter),
-                _ => self.pass(x, meter),
+            (Phase::Plain, Ok(x)) => match x.name() {
+                Some(name) => self.begin(x, name, book, meter),
+                None => self.pass(x, meter),
             },
             (Phase::Plain, Err(StepExit::Continue)) => self.quiet(),
             (Phase::Plain, Err(StepExit::Finished)) => self.finish(meter),
-            (Phase::Plain, Err(StepExit::Error(f))) => Some(Err(StepExit::Error(f))),
-            (Phase::Met(callee), Ok(x)) => match delimiter_of(x.value) {
-                Delimiter::Open => {
-                    let from = meter.working.len();
-                    self.phase = Phase::Gather(opened(callee, x.location, from));
-                    None
-                }
-                _ => self.hold(callee, Ok(x), meter),
-            },
-            (Phase::Met(_), Err(StepExit::Continue)) => None,
-            (Phase::Met(callee), Err(StepExit::Finished)) => self.hold(
-                callee,
-                Err(StepExit::Finished),
-                meter,
-            ),
-            (Phase::Met(callee), Err(StepExit::Error(f))) => {
-                if is_spent(f.error) {
-                    Some(Err(StepExit::Error(f)))
-                } else {
-                    self.hold(callee, Err(StepExit::Error(f)), meter)
-                }
+            (Phase::Met(callee), Ok(x)) if Delimiter::from(x.value) == Delimiter::Open => {
+                let from = meter.working.len();
+                self.phase = Phase::Gather(callee.opened(x.location, from));
+                None
+            }
+            // moves spent is never held back
+            (
+                Phase::Met(_),
+                Err(
+                    StepExit::Error(
+                        Fault {
+                            error: PreprocessorError::MovesSpent,
+                            ..
+                        },
+                    ),
+                ),
+            ) => Some(met),
+            (Phase::Met(callee), Ok(_) | Err(StepExit::Finished | StepExit::Error(_))) => {
+                self.hold(callee, met, meter)
             }
             (Phase::Gather(call), Ok(x)) => self.gather(call, x, book, meter),
-            (Phase::Gather(_), Err(StepExit::Continue)) => None,
             (Phase::Gather(call), Err(StepExit::Finished)) => Some(fail(
                 PreprocessorError::UnexpectedEndOfInput,
                 call.last,
             )),
-            (Phase::Gather(_), Err(StepExit::Error(f))) => Some(Err(StepExit::Error(f))),
-            (Phase::Held(_), _) => None,
+            (Phase::Plain | Phase::Gather(_), Err(StepExit::Error(_))) => Some(met),
+            (Phase::Met(_) | Phase::Gather(_), Err(StepExit::Continue)) | (Phase::Held(_), _) =>
+                None,
         }
     }
 }

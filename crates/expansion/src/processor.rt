@@ -1,18 +1,25 @@
 // The processor: what its current level is doing, the levels that wait below, and the macros in expansion at all levels.
 ghost use Rattle.std.specs.Prelude.{◌≡◌, ℕ, ◌≤◌, vec_len, vec_capacity};
 
-use crate::invocation::{DefineInvocation, Pending, Phase};
+use crate::invocation::{DefineInvocation, Level, Pending, Phase};
 use stores::span::Span;
+
+// At most this many levels wait.
+pub const MAX_LEVELS: usize = 16;
+
+// At most this many macros are in expansion: one more than there are definitions.
+pub const MAX_INVOCATIONS: usize = 513;
+
+// At most this many arguments of a call are kept.
+pub const MAX_ARGUMENTS: usize = 32;
+
+// One slot of arguments for each macro in expansion, and one for each level.
+pub const SLOTS: usize = MAX_INVOCATIONS + MAX_LEVELS + 1;
 
 #[derive(Drop)]
 pub struct MacroProcessor {
     pub phase: Phase,
-    // what is left of the argument that this level expands; level 0 reads the feed
-    pub input: Span,
-    // where this level's output begins
-    pub start: usize,
-    // the line that `__LINE__` shows within a macro
-    pub line: u32,
+    pub level: Level,
     pub below: Vec<Pending>,
     pub invocations: Vec<DefineInvocation>,
     // 32 arguments for each macro in expansion, then for the call of each level

@@ -19,7 +19,7 @@ pub fn after_steps<F: Feed>(
 {
     let mut meter = Meter::new(heap, budget)?;
     let mut processor = MacroProcessor::new(heap)?;
-    for _i in 0..count {
+    for _ in 0..count {
         let _ = processor.step(feed, &mut meter);
     }
     Ok(processor)

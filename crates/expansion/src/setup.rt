@@ -3,8 +3,8 @@ ghost use Rattle.std.specs.Prelude.{◌≡◌, ℕ, ◌+◌, ◌<◌, ◌≤◌,
 ghost use Rattle.stores.specs.Spans.{nowhere};
 ghost use Rattle.expansion.specs.Processor.{view, fresh};
 
-use crate::invocation::Phase;
-use crate::processor::MacroProcessor;
+use crate::invocation::{Level, Phase};
+use crate::processor::{MAX_ARGUMENTS, MAX_INVOCATIONS, MAX_LEVELS, MacroProcessor, SLOTS};
 use std::alloc::{AllocError, Global};
 use stores::span::Span;
 
@@ -12,14 +12,12 @@ impl MacroProcessor {
     pub fn new(heap: Global) -> Result<MacroProcessor, AllocError>
         ensures { IfOk result (λ p. view p ≡ fresh p.arguments.items) }
     {
-        let below = Vec::with_capacity(heap, 16)?;
-        let invocations = Vec::with_capacity(heap, 513)?;
-        let arguments = vec![in heap; Span::default(); 16960]?;
+        let below = Vec::with_capacity(heap, MAX_LEVELS)?;
+        let invocations = Vec::with_capacity(heap, MAX_INVOCATIONS)?;
+        let arguments = vec![in heap; Span::default(); SLOTS * MAX_ARGUMENTS]?;
         Ok(MacroProcessor {
             phase: Phase::Plain,
-            input: Span::default(),
-            start: 0,
-            line: 0,
+            level: Level::default(),
             below,
             invocations,
             arguments,
@@ -31,9 +29,7 @@ impl MacroProcessor {
         ensures { view self.new ≡ fresh self.old.arguments.items }
     {
         self.phase = Phase::Plain;
-        self.input = Span::default();
-        self.start = 0;
-        self.line = 0;
+        self.level = Level::default();
         self.below.clear();
         self.invocations.clear();
     }

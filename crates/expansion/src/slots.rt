@@ -4,29 +4,22 @@ ghost use Rattle.stores.specs.Spans.{nowhere};
 ghost use Rattle.expansion.specs.Processor.{view, argued};
 ghost use Rattle.expansion.specs.Arguments.{arg_at, with_arg, copied, slot_of_call};
 
-use crate::processor::MacroProcessor;
+use crate::processor::{MAX_ARGUMENTS, MAX_INVOCATIONS, MacroProcessor, SLOTS};
 use stores::span::Span;
-
-// 513 macros and 17 levels.
-pub const SLOTS: usize = 530;
 
 impl MacroProcessor {
     // The slot of the current level's call.
     pub fn call_slot(&self) -> usize
         ensures { result ≡ slot_of_call self.now.below.items }
     {
-        513 + self.below.len()
+        MAX_INVOCATIONS + self.below.len()
     }
 
     pub fn argument(&self, slot: usize, i: usize) -> Span
         ensures { result ≡ arg_at self.now.arguments.items slot i }
     {
-        if i < 32 {
-            if slot < SLOTS {
-                self.arguments[slot * 32 + i]
-            } else {
-                Span::default()
-            }
+        if i < MAX_ARGUMENTS && slot < SLOTS {
+            self.arguments[slot * MAX_ARGUMENTS + i]
         } else {
             Span::default()
         }
@@ -35,10 +28,8 @@ impl MacroProcessor {
     pub fn set_argument(&mut self, slot: usize, i: usize, s: Span)
         ensures { view self.new ≡ argued (view self.old) (with_arg self.old.arguments.items slot i s) }
     {
-        if i < 32 {
-            if slot < SLOTS {
-                self.arguments[slot * 32 + i] = s;
-            }
+        if i < MAX_ARGUMENTS && slot < SLOTS {
+            self.arguments[slot * MAX_ARGUMENTS + i] = s;
         }
     }
 

@@ -1,16 +1,15 @@
 // A move, a turn and a step of the processor over any feed.
-ghost use Rattle.std.specs.Prelude.{◌≡◌, ℕ, ◌+◌, ◌<◌, ◌≤◌};
+ghost use Rattle.std.specs.Prelude.{◌≡◌, ℕ, ◌+◌, ◌<◌, ◌≤◌, OnOk};
 ghost use Rattle.stores.specs.Tank.{tank};
 ghost use Rattle.expansion.specs.Processor.{view};
 ghost use Rattle.expansion.specs.Sane.{Holds};
 ghost use Rattle.expansion.specs.Moved.{Moved, Pays, PaysFor};
 
 use crate::invocation::Phase;
-use crate::phases::fail;
 use crate::processor::MacroProcessor;
 use books::Feed;
 use stores::meter::Meter;
-use tokens::fault::{Step, StepExit};
+use tokens::fault::{Fault, Layer, Step};
 use tokens::token::{Integer, Token, TokenValue};
 use tokens::words::LINE_MACRO;
 
@@ -21,7 +20,7 @@ impl MacroProcessor {
     {
         if self.is_expanding_define() {
             self.read_invocation(feed, meter)
-        } else if self.below.len() == 0 {
+        } else if self.below.is_empty() {
             feed.step(meter)
         } else {
             self.read_input(meter)
@@ -30,49 +29,48 @@ impl MacroProcessor {
 
     // `__LINE__` becomes its number: inside a macro that macro's line, else the token's own. Only level 0 follows `#line`.
     fn number_line<F: Feed>(&self, step: Step<Token>, feed: &F) -> Step<Token> {
-        let Ok(token) = step else {
-            return step;
-        };
+        let token = step?;
         let TokenValue::Ident(LINE_MACRO) = token.value else {
-            return step;
+            return Ok(token);
         };
         let line = if self.is_expanding_define() {
-            self.line
+            self.level.line
         } else {
             token.location.line
         };
-        let shown = if self.below.len() == 0 {
-            feed.apply_line_offset(line, token.location)
+        let shown = if self.below.is_empty() {
+            feed.apply_line_offset(line, token.location)?
         } else {
-            Ok(line)
+            line
         };
-        match shown {
-            Ok(n) => Ok(Token {
-                value: TokenValue::Integer(Integer {
-                    value: n as u64,
-                    signed: false,
-                    width: 32,
-                }),
-                location: token.location,
+        Ok(Token {
+            value: TokenValue::Integer(Integer {
+                value: shown as u64,
+                signed: false,
+                width: 32,
             }),
-            Err(fault) => Err(StepExit::Error(fault)),
-        }
+            location: token.location,
+        })
     }
 
-    // One move, once it is granted: what was held back is met first.
-    pub fn move_on<F: Feed>(&mut self, feed: &mut F, meter: &mut Meter) -> Step<Token>
-        ensures { Moved (F.Book.defs feed.old) (view self.old) (tank meter.old) (F.Book.defs feed.new) (view self.new) (tank meter.new) }
+    // One move, if one is granted: what was held back is met first.
+    pub fn move_on<F: Feed>(
+        &mut self,
+        feed: &mut F,
+        meter: &mut Meter,
+    ) -> Result<Step<Token>, Fault>
+        ensures moved { Moved (F.Book.defs feed.old) (view self.old) (tank meter.old) (F.Book.defs feed.new) (view self.new) (tank meter.new) }
+        ensures pays { OnOk result (meter.old.moves < meter.new.moves) }
     {
-        match self.phase {
-            Phase::Held(step) => {
-                self.phase = Phase::Plain;
-                step
-            }
-            _ => {
-                let step = self.step_internal(feed, meter);
-                self.number_line(step, feed)
-            }
+        meter
+            .spend()
+            .map_err(|error| Fault::new(error, feed.place(), Layer::Expansion))?;
+        if let Phase::Held(step) = self.phase {
+            self.phase = Phase::Plain;
+            return Ok(step);
         }
+        let step = self.step_internal(feed, meter);
+        Ok(self.number_line(step, feed))
     }
 
     // One turn: a move, and what the phase makes of it. No answer means that the step goes on.
@@ -81,11 +79,10 @@ impl MacroProcessor {
         ensures moved { Moved (F.Book.defs feed.old) (view self.old) (tank meter.old) (F.Book.defs feed.new) (view self.new) (tank meter.new) }
         ensures pays { Pays result (tank meter.old) (tank meter.new) }
     {
-        if let Err(error) = meter.spend() {
-            return Some(fail(error, feed.place()));
+        match self.move_on(feed, meter) {
+            Ok(met) => self.meet(met, feed, meter),
+            Err(fault) => Some(Err(fault.into())),
         }
-        let met = self.move_on(feed, meter);
-        self.meet(met, feed, meter)
     }
 
     // One step: turns, until one of them answers.

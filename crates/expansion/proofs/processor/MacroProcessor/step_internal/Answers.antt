@@ -1,4 +1,4 @@
-use Rattle.std.proofs.Common.{◌≡◌, length, vec_items, arith}
+use Rattle.std.proofs.Common.{◌≡◌, length, vec_items, sym, ◌∙◌, arith, eqb-true}
 use Rattle.stores.specs.Tank.{tank, read}
 use Rattle.expansion.specs.Processor.{view}
 use Rattle.expansion.proofs.Motions.{read_moved, fed_moved, input_moved}
@@ -8,14 +8,15 @@ pub returns-then-is_expanding_define : goal.returns-then-is_expanding_define
 returns-then-is_expanding_define g c =
     read_moved _ (view c.args.self.now) _ (tank c.args.meter.now) _ _ c.is_expanding_define.ensures c.if-is_expanding_define.true c.read_invocation.ensures
 
-pub returns-then-len-eq0 : goal.returns-then-len-eq0
-returns-then-len-eq0 g c =
+pub returns-then-is_empty : goal.returns-then-is_empty
+returns-then-is_empty g c =
     let p = c.args.self.now in
-    let z : length (vec_items p.below) ≡ 0 = omega (arith, p.below.ok.0) in
+    let e = eqb-true _ 0 (sym c.is_empty.ensures ∙ c.if-is_empty.true) in
+    let z : length (vec_items p.below) ≡ 0 = omega (arith, e, p.below.ok.0) in
     fed_moved _ _ (view p) _ _ _ c.is_expanding_define.ensures c.if-is_expanding_define.false z c.step.ensures.handles c.step.ensures.stores
 
-pub returns-else-len-eq0 : goal.returns-else-len-eq0
-returns-else-len-eq0 g c =
+pub returns-else-is_empty : goal.returns-else-is_empty
+returns-else-is_empty g c =
     let p = c.args.self.now in
     let m = c.args.meter.now in
-    input_moved _ (view p) _ (tank m) (read (vec_items m.working) p.input) c.read_input.ensures.after
+    input_moved _ (view p) _ (tank m) (read (vec_items m.working) p.level.input) c.read_input.ensures.after
