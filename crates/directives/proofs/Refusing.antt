@@ -1,5 +1,5 @@
 -- A refused definition leaves the definitions and the kept tokens as they were.
-use Rattle.std.proofs.Common.{◌≡◌, Bool, false, cond, List, vec_items, sym, refl, ap, ◌∙◌, subst}
+use Rattle.std.proofs.Common.{◌≡◌, Bool, false, cond, is_ok, Ok, Err, OnErr, Result, List, vec_items, sym, refl, ap, ◌∙◌, subst}
 use Rattle.tokens.specs.declared.token.Token.{Token}
 use Rattle.books.specs.Book.{Defs, Grown, Kept}
 use Rattle.defines.specs.declared.table.Defines.{Defines}
@@ -21,3 +21,8 @@ not_taken b xs ys zs e f = e ∙ ap (λ c. cond c xs ys) f
 
 pub not_accepted : (b : Bool) (d e f : Defs) → f ≡ cond b d e → b ≡ false → f ≡ e
 not_accepted b d e f g h = g ∙ ap (λ c. cond c d e) h
+
+-- what holds of a refusal
+pub on_err : {X E : Type 0} (r : Result X E) (P : Type 0) → (is_ok r ≡ false → P) → OnErr r P
+on_err (Ok x) P f = tt
+on_err (Err e) P f = f refl

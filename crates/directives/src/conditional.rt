@@ -5,6 +5,7 @@ ghost use Rattle.defines.specs.Held.{held};
 ghost use Rattle.stores.specs.Places.{latest};
 ghost use Rattle.reading.specs.Blocks.{pushed};
 ghost use Rattle.directives.specs.Segments.{else_on, end_on, elif_on, decided, if_on};
+ghost use Rattle.directives.specs.Unchanged.{Weighed};
 ghost use Rattle.expansion.specs.Processor.{view};
 ghost use Rattle.expansion.specs.Sane.{Holds};
 ghost use Rattle.expansion.specs.Moved.{Moved};
@@ -14,29 +15,12 @@ use books::{Book, Feed};
 use conditions::if_lexer::IfLexer;
 use conditions::if_parser::IfParser;
 use reading::blocks::DirectiveBlock;
-use reading::convert::fault;
 use sources::source::Source;
 use stores::guard::Guard;
 use stores::meter::Meter;
 use stores::span::Span;
-use tokens::fault::{Fault, PreprocessorError, Step, StepExit};
+use tokens::fault::{Fault, Layer, PreprocessorError, Step};
 use tokens::location::Location;
-use tokens::token::Token;
-
-// The three ways to open a block.
-#[derive(Clone, Copy)]
-pub enum Opening {
-    If,
-    Ifdef,
-    Ifndef,
-}
-
-fn unexpected(token: Token) -> Fault {
-    fault(
-        PreprocessorError::UnexpectedToken(token.value),
-        token.location,
-    )
-}
 
 // A second expression may follow the line of `#line`; its value is of no account.
 fn pass_second_expression<F: Feed>(
@@ -73,7 +57,7 @@ impl<S: Source> DirectiveProcessor<S> {
         };
         let value = self.parser.evaluate_expression(&mut lexer, meter)?;
         match self.parser.peek(&mut lexer, meter)? {
-            Some(token) => Err(unexpected(token)),
+            Some(token) => Err(Fault::unexpected(token, Layer::Directives)),
             None => Ok(value != 0),
         }
     }
@@ -87,10 +71,8 @@ impl<S: Source> DirectiveProcessor<S> {
         let mark = meter.mark();
         let guard = Guard { meter, mark };
         let line = self.reader.gather_until_newline(guard.meter)?;
-        match self.evaluate_if_expression(location, line, guard.meter) {
-            Ok(holds) => Ok(holds),
-            Err(f) => Err(StepExit::Error(f)),
-        }
+        let holds = self.evaluate_if_expression(location, line, guard.meter)?;
+        Ok(holds)
     }
 
     // Whether the name behind `#ifdef` or `#ifndef` is in force.
@@ -100,22 +82,7 @@ impl<S: Source> DirectiveProcessor<S> {
     {
         let (name, name_location) = self.reader.expect_lexer_ident(location)?;
         self.reader.expect_newline(name_location)?;
-        match self.defines.find(name) {
-            Some(_) => Ok(true),
-            None => Ok(false),
-        }
-    }
-
-    fn opens(&mut self, opening: Opening, location: Location, meter: &mut Meter) -> Step<bool>
-        ensures defs { held self.new.defines ≡ held self.old.defines }
-        ensures stores { Spends (tank meter.old) (tank meter.new) }
-        ensures segments { self.new.blocks ≡ self.old.blocks }
-    {
-        match opening {
-            Opening::If => self.condition(location, meter),
-            Opening::Ifdef => self.is_defined(location),
-            Opening::Ifndef => Ok(!self.is_defined(location)?),
-        }
+        Ok(self.defines.find(name).is_some())
     }
 
     fn begin_block(&mut self, block: DirectiveBlock, skipping: bool) -> Step<()>
@@ -123,20 +90,19 @@ impl<S: Source> DirectiveProcessor<S> {
         ensures stack { self.new.blocks.stack.items ≡ pushed self.old.blocks.stack.items block }
         ensures skipping { self.new.blocks.skipping ≡ skipping }
     {
-        if self.blocks.begin(block, skipping) {
-            Ok(())
-        } else {
-            Err(StepExit::Error(fault(PreprocessorError::TooManyBlocks, block.start_location)))
-        }
+        let begun = self.blocks.begin(block, skipping);
+        begun.map_err(|error| Fault::new(error, block.start_location, Layer::Directives).into())
     }
 
     // In dead text a block is only counted; in live text its condition is worked out first.
-    pub fn parse_if_like_directive(
+    fn parse_if_like_directive<F: FnOnce(&mut DirectiveProcessor<S>, &mut Meter) -> Step<bool>>(
         &mut self,
-        opening: Opening,
         directive_location: Location,
         meter: &mut Meter,
+        parse: F,
     ) -> Step<()>
+        requires callable { F.IsAlwaysCallable parse }
+        requires weighs { (p : _) (m : _) (r : _) (q : _) (n : _) → F.post parse p m r q n → Weighed p.now q.now (tank m.now) (tank n.now) }
         ensures defs { held self.new.defines ≡ held self.old.defines }
         ensures stores { Spends (tank meter.old) (tank meter.new) }
         ensures segments { OnOk result ((self.new.blocks.stack.items ≡ if_on self.old.blocks.skipping self.new.blocks.skipping directive_location self.old.blocks.stack.items) × ((if self.old.blocks.skipping then self.new.blocks.skipping else true) ≡ true)) }
@@ -153,7 +119,7 @@ impl<S: Source> DirectiveProcessor<S> {
             )?;
             return self.reader.consume_until_newline();
         }
-        let holds = self.opens(opening, directive_location, meter)?;
+        let holds = parse(self, meter)?;
         self.begin_block(
             DirectiveBlock {
                 start_location: directive_location,
@@ -163,6 +129,30 @@ impl<S: Source> DirectiveProcessor<S> {
             },
             !holds,
         )
+    }
+
+    pub fn parse_if_directive(&mut self, location: Location, meter: &mut Meter) -> Step<()>
+        ensures defs { held self.new.defines ≡ held self.old.defines }
+        ensures stores { Spends (tank meter.old) (tank meter.new) }
+        ensures segments { OnOk result ((self.new.blocks.stack.items ≡ if_on self.old.blocks.skipping self.new.blocks.skipping location self.old.blocks.stack.items) × ((if self.old.blocks.skipping then self.new.blocks.skipping else true) ≡ true)) }
+    {
+        self.parse_if_like_directive(location, meter, |this, meter| this.condition(location, meter))
+    }
+
+    pub fn parse_ifdef_directive(&mut self, location: Location, meter: &mut Meter) -> Step<()>
+        ensures defs { held self.new.defines ≡ held self.old.defines }
+        ensures stores { Spends (tank meter.old) (tank meter.new) }
+        ensures segments { OnOk result ((self.new.blocks.stack.items ≡ if_on self.old.blocks.skipping self.new.blocks.skipping location self.old.blocks.stack.items) × ((if self.old.blocks.skipping then self.new.blocks.skipping else true) ≡ true)) }
+    {
+        self.parse_if_like_directive(location, meter, |this, _| this.is_defined(location))
+    }
+
+    pub fn parse_ifndef_directive(&mut self, location: Location, meter: &mut Meter) -> Step<()>
+        ensures defs { held self.new.defines ≡ held self.old.defines }
+        ensures stores { Spends (tank meter.old) (tank meter.new) }
+        ensures segments { OnOk result ((self.new.blocks.stack.items ≡ if_on self.old.blocks.skipping self.new.blocks.skipping location self.old.blocks.stack.items) × ((if self.old.blocks.skipping then self.new.blocks.skipping else true) ≡ true)) }
+    {
+        self.parse_if_like_directive(location, meter, |this, _| Ok(!this.is_defined(location)?))
     }
 
     // The structure is tested even in dead text; the condition only where it is needed.
@@ -177,16 +167,10 @@ impl<S: Source> DirectiveProcessor<S> {
     {
         self.blocks.skipping = true;
         let Some(block) = self.blocks.top() else {
-            return Err(StepExit::Error(fault(
-                PreprocessorError::ElifOutsideOfBlock,
-                directive_location,
-            )));
+            return Err(Fault::new(PreprocessorError::ElifOutsideOfBlock, directive_location, Layer::Directives).into());
         };
         if block.had_else {
-            return Err(StepExit::Error(fault(
-                PreprocessorError::ElifAfterElse,
-                directive_location,
-            )));
+            return Err(Fault::new(PreprocessorError::ElifAfterElse, directive_location, Layer::Directives).into());
         }
         if block.outer_skipped || block.had_valid_segment {
             return self.reader.consume_until_newline();
@@ -209,16 +193,10 @@ impl<S: Source> DirectiveProcessor<S> {
     {
         self.reader.expect_newline(directive_location)?;
         let Some(block) = self.blocks.top() else {
-            return Err(StepExit::Error(fault(
-                PreprocessorError::ElseOutsideOfBlock,
-                directive_location,
-            )));
+            return Err(Fault::new(PreprocessorError::ElseOutsideOfBlock, directive_location, Layer::Directives).into());
         };
         if block.had_else {
-            return Err(StepExit::Error(fault(
-                PreprocessorError::MoreThanOneElse,
-                directive_location,
-            )));
+            return Err(Fault::new(PreprocessorError::MoreThanOneElse, directive_location, Layer::Directives).into());
         }
         let skipping = block.outer_skipped || block.had_valid_segment;
         self.blocks.change(
@@ -237,10 +215,7 @@ impl<S: Source> DirectiveProcessor<S> {
         ensures segments { OnOk result ((self.new.blocks.stack.items ≡ (end_on (latest self.old.blocks.stack.items) (self.old.blocks.stack.items)).0) × (self.new.blocks.skipping ≡ (end_on (latest self.old.blocks.stack.items) (self.old.blocks.stack.items)).1)) }
     {
         let Some(block) = self.blocks.close() else {
-            return Err(StepExit::Error(fault(
-                PreprocessorError::EndifOutsideOfBlock,
-                directive_location,
-            )));
+            return Err(Fault::new(PreprocessorError::EndifOutsideOfBlock, directive_location, Layer::Directives).into());
         };
         self.blocks.skipping = block.outer_skipped;
         if block.outer_skipped {
@@ -269,12 +244,12 @@ impl<S: Source> DirectiveProcessor<S> {
         };
         let value = self.parser.evaluate_expression(&mut lexer, meter)?;
         let Ok(number) = u32::try_from(value) else {
-            return Err(fault(PreprocessorError::LineOverflow, location));
+            return Err(Fault::new(PreprocessorError::LineOverflow, location, Layer::Directives));
         };
         self.line_offset = i64::from(number) - i64::from(location.line);
         pass_second_expression(&mut self.parser, &mut lexer, meter)?;
         match self.parser.peek(&mut lexer, meter)? {
-            Some(token) => Err(unexpected(token)),
+            Some(token) => Err(Fault::unexpected(token, Layer::Directives)),
             None => Ok(()),
         }
     }
@@ -291,9 +266,7 @@ impl<S: Source> DirectiveProcessor<S> {
         let mark = meter.mark();
         let guard = Guard { meter, mark };
         let line = self.reader.gather_until_newline(guard.meter)?;
-        match self.evaluate_line(directive_location, line, guard.meter) {
-            Ok(()) => Ok(()),
-            Err(f) => Err(StepExit::Error(f)),
-        }
+        self.evaluate_line(directive_location, line, guard.meter)?;
+        Ok(())
     }
 }

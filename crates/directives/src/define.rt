@@ -5,12 +5,11 @@ ghost use Rattle.defines.specs.Held.{held};
 ghost use Rattle.directives.specs.Unchanged.{Same, Beside};
 
 use crate::processor::DirectiveProcessor;
-use reading::convert::fault;
 use reading::definitions::{accept_define, keep_tokens};
 use sources::source::Source;
-use tokens::fault::{Fault, PreprocessorError, Step, StepExit};
+use tokens::fault::{Fault, Layer, Step};
 use tokens::lexer::LexerToken;
-use tokens::location::{Location, default_location};
+use tokens::location::Location;
 
 impl<S: Source> DirectiveProcessor<S> {
     // What was read and not accepted is given back.
@@ -19,17 +18,11 @@ impl<S: Source> DirectiveProcessor<S> {
         ensures segments { self.new.blocks ≡ self.old.blocks }
     {
         let (name, name_location) = self.reader.expect_lexer_ident(directive_location)?;
-        self.defines.begin();
         match self.reader.read_define(&mut self.defines) {
-            Ok(function_like) => match accept_define(
-                &mut self.defines,
-                name,
-                function_like,
-                name_location,
-            ) {
-                Ok(()) => Ok(()),
-                Err(f) => Err(StepExit::Error(f)),
-            },
+            Ok(function_like) => {
+                accept_define(&mut self.defines, name, function_like, name_location)?;
+                Ok(())
+            }
             Err(exit) => {
                 self.defines.give_back();
                 Err(exit)
@@ -53,15 +46,11 @@ impl<S: Source> DirectiveProcessor<S> {
         ensures refused { OnErr result (Same self.old.defines self.new.defines) }
         ensures others { Beside self.old self.new }
     {
-        self.defines.begin();
         if let Err(f) = keep_tokens(&mut self.defines, tokens) {
             self.defines.give_back();
             return Err(f);
         }
-        if self.defines.accept(name, false) {
-            Ok(())
-        } else {
-            Err(fault(PreprocessorError::TooManyDefines, default_location()))
-        }
+        let accepted = self.defines.accept(name, false);
+        accepted.map_err(|error| Fault::new(error, Location::default(), Layer::Directives))
     }
 }

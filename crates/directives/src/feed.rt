@@ -11,12 +11,12 @@ use books::{Book, Feed, Handle};
 use conditions::if_parser::IfParser;
 use defines::table::Defines;
 use reading::blocks::Blocks;
-use reading::convert::{Converted, convert_lexer_token, fault, make_unexpected_error};
+use reading::convert::{Converted, make_unexpected_error};
 use reading::reader::Reader;
 use sources::source::Source;
 use std::alloc::{AllocError, Global};
 use stores::meter::Meter;
-use tokens::fault::{Fault, PreprocessorError, Step, StepExit};
+use tokens::fault::{Fault, Layer, PreprocessorError, Step, StepExit};
 use tokens::location::Location;
 use tokens::token::Token;
 
@@ -47,11 +47,11 @@ impl<S: Source> DirectiveProcessor<S> {
         ensures stores { Spends (tank meter.old) (tank meter.new) }
     {
         let token = self.reader.get_lexer_token()?;
-        match convert_lexer_token(token) {
+        match Converted::from(token) {
             Converted::NewLine => Err(StepExit::Continue),
             Converted::Hash if token.start_of_line => self.parse_directive(token.location, meter),
             _ if self.blocks.skipping => Err(StepExit::Continue),
-            Converted::Hash => Err(StepExit::Error(make_unexpected_error(token))),
+            Converted::Hash => Err(make_unexpected_error(token).into()),
             Converted::Token(x) => {
                 self.had_non_directive_token = true;
                 Ok(x)
@@ -91,10 +91,11 @@ impl<S: Source> Feed for DirectiveProcessor<S> {
     fn step(&mut self, meter: &mut Meter) -> Step<Token> {
         match self.step_text(meter) {
             Err(StepExit::Finished) => match self.blocks.close() {
-                Some(block) => Err(StepExit::Error(fault(
+                Some(block) => Err(Fault::new(
                     PreprocessorError::UnfinishedBlock,
                     block.start_location,
-                ))),
+                    Layer::Directives,
+                ).into()),
                 None => Err(StepExit::Finished),
             },
             step => step,
@@ -106,12 +107,8 @@ impl<S: Source> Feed for DirectiveProcessor<S> {
     }
 
     fn apply_line_offset(&self, line: u32, location: Location) -> Result<u32, Fault> {
-        let Some(shifted) = i64::from(line).checked_add(self.line_offset) else {
-            return Err(fault(PreprocessorError::LineOverflow, location));
-        };
-        match u32::try_from(shifted) {
-            Ok(n) => Ok(n),
-            Err(_) => Err(fault(PreprocessorError::LineOverflow, location)),
-        }
+        let overflow = Fault::new(PreprocessorError::LineOverflow, location, Layer::Directives);
+        let shifted = i64::from(line).checked_add(self.line_offset).ok_or(overflow)?;
+        u32::try_from(shifted).map_err(|_| overflow)
     }
 }

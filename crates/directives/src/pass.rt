@@ -15,7 +15,6 @@ impl<S: Source> DirectiveProcessor<S> {
         ensures segments { self.new.blocks ≡ self.old.blocks }
     {
         let first = self.reader.get_lexer_token()?;
-        self.defines.begin();
         match self.reader.keep_until_newline(first, &mut self.defines) {
             Ok(()) => Ok(self.defines.pass()),
             Err(exit) => {
