@@ -1,6 +1,8 @@
 -- Tokens decoded so far, and those still to be decoded.
-use Rattle.std.proofs.Common.{◌≡◌, ℕ, ◌+◌, ◌<◌, ◌≤◌, List, [], ◌∷◌, ◌++◌, length, get_or, drop, Some, None, Option, sym, refl, ap, ◌∙◌}
+use Rattle.std.proofs.Common.{◌≡◌, ℕ, ◌+◌, ◌<◌, ◌≤◌, List, [], ◌∷◌, ◌++◌, length, get_or, drop, Some, None, Err, Option, ok_or, sym, refl, ap, ◌∙◌, arith}
 use Rattle.std.proofs.lemmas.List.{append-nil, append_assoc, at_drop_more, at_drop_all}
+use Rattle.tokens.specs.declared.fault.Refusal.{Refusal}
+use Rattle.tokens.specs.declared.fault.Refusal.TheVariants.{BadFile}
 use Rattle.tokens.specs.declared.lexer.LexerToken.{LexerToken}
 use Rattle.sources.specs.declared.file.raw.Raw.{Raw}
 use Rattle.sources.specs.Bytes.{raw_of}
@@ -26,6 +28,11 @@ module _ (n : ℕ) (bs : List (List ℕ)) (i : ℕ) (d : List ℕ) (r : Raw) (xs
 
   pub decoded : (t : LexerToken) → Some t ≡ decoded_token n r → behind (xs ++ t ∷ []) (tokens_of n (drop (i + 1) bs)) ≡ behind xs (tokens_of n (drop i bs))
   decoded t e = sym (ap (behind xs) (more ∙ ap (λ o. together o (tokens_of n (drop (i + 1) bs))) (sym e)) ∙ behind_more xs t (tokens_of n (drop (i + 1) bs)))
+
+-- why `ok_or` refuses
+pub lost : {A : Type 0} (o : Option A) (e : Refusal) → Err e ≡ ok_or o BadFile → (e ≡ BadFile) × (o ≡ None)
+lost None e h = (grind arith, refl)
+lost (Some x) e h = absurd (grind arith)
 
 pub all_decoded : (n : ℕ) (bs : List (List ℕ)) (i : ℕ) (xs : List LexerToken) → length bs ≤ i → behind xs (tokens_of n (drop i bs)) ≡ Some xs
 all_decoded n bs i xs h = ap (behind xs) (at_drop_all (tokens_of n) bs i h) ∙ behind_all xs

@@ -1,6 +1,7 @@
 -- What a token file means, test by test.
-use Rattle.std.proofs.Common.{◌≡◌, ℕ, ◌+◌, ◌-◌, ◌*◌, ◌/◌, ◌≤◌, true, false, cond, ◌&&◌, eqb, leb, ◌⊎◌, List, length, drop, is_ok, Some, None, Err, Result, sym, ap, ◌∙◌, subst, arith}
+use Rattle.std.proofs.Common.{◌≡◌, ℕ, ◌+◌, ◌-◌, ◌*◌, ◌/◌, ◌≤◌, true, false, cond, ◌&&◌, eqb, leb, ◌⊎◌, List, length, drop, is_ok, sum, Some, None, Err, Result, sym, ap, ◌∙◌, subst, arith}
 use Rattle.std.specs.Simd.{first_chunks}
+use Rattle.std.specs.List.{list_all}
 use Rattle.std.proofs.lemmas.List.{length-drop}
 use Rattle.std.proofs.lemmas.Bool.{and_parts, and_from, eqb-true, le-leb}
 use Rattle.tokens.specs.declared.fault.Refusal.{Refusal}
@@ -9,7 +10,7 @@ use Rattle.tokens.specs.declared.lexer.LexerToken.{LexerToken}
 use Rattle.sources.specs.Source.{Tokens, lawful}
 use Rattle.sources.specs.Bytes.{four}
 use Rattle.sources.specs.Fields.{tokens_of}
-use Rattle.sources.specs.Contents.{total, all_fit, bodies, name_lens, record_bytes, shaped, file_names, file_tokens}
+use Rattle.sources.specs.Contents.{fit, bodies, name_lens, record_bytes, shaped, file_names, file_tokens}
 use Rattle.sources.specs.Entering.{numbers_of}
 use Rattle.sources.specs.Filed.{begun, entered, named, checked, filed}
 use Rattle.sources.specs.FileSource.{Filing}
@@ -17,9 +18,9 @@ use Rattle.sources.specs.declared.file.TokenFile.{TokenFile}
 
 record_count : (bs : List ℕ) → shaped bs ≡ true → length (record_bytes bs) / 24 ≡ four bs 4
 record_count bs s =
-    let p = and_parts (leb 8 (length bs)) (leb (2 * four bs 0) (length (drop 8 bs)) && eqb (length (bodies bs)) (total (name_lens bs) + 24 * four bs 4)) s in
-    let q = and_parts (leb (2 * four bs 0) (length (drop 8 bs))) (eqb (length (bodies bs)) (total (name_lens bs) + 24 * four bs 4)) p.1 in
-    count (length (bodies bs)) (total (name_lens bs)) (four bs 4) (length (record_bytes bs)) (eqb-true (length (bodies bs)) (total (name_lens bs) + 24 * four bs 4) q.1) (length-drop (total (name_lens bs)) (bodies bs))
+    let p = and_parts (leb 8 (length bs)) (leb (2 * four bs 0) (length (drop 8 bs)) && eqb (length (bodies bs)) (sum (name_lens bs) + 24 * four bs 4)) s in
+    let q = and_parts (leb (2 * four bs 0) (length (drop 8 bs))) (eqb (length (bodies bs)) (sum (name_lens bs) + 24 * four bs 4)) p.1 in
+    count (length (bodies bs)) (sum (name_lens bs)) (four bs 4) (length (record_bytes bs)) (eqb-true (length (bodies bs)) (sum (name_lens bs) + 24 * four bs 4) q.1) (length-drop (sum (name_lens bs)) (bodies bs))
   where
     count : (b t m r : ℕ) → b ≡ t + 24 * m → r ≡ b - t → r / 24 ≡ m
     count b t m r e f = omega arith
@@ -46,10 +47,10 @@ module _ (ns : List (List ℕ)) (bs : List ℕ) (size : length bs ≤ 65536) (s 
     lengths : lawful (begun ts) ≡ true → filed ns bs ≡ named ns bs ts
     lengths l = tested ∙ ap (λ b. cond b (named ns bs ts) (Err BadFile)) l
 
-    pub bad_length : lawful (begun ts) ≡ true → all_fit (name_lens bs) ≡ false → filed ns bs ≡ Err NameLength
+    pub bad_length : lawful (begun ts) ≡ true → list_all fit (name_lens bs) ≡ false → filed ns bs ≡ Err NameLength
     bad_length l a = lengths l ∙ ap (λ b. cond b (entered ts (numbers_of ns (file_names bs))) (Err NameLength)) a
 
-    pub all_tested : lawful (begun ts) ≡ true → all_fit (name_lens bs) ≡ true → filed ns bs ≡ entered ts (numbers_of ns (file_names bs))
+    pub all_tested : lawful (begun ts) ≡ true → list_all fit (name_lens bs) ≡ true → filed ns bs ≡ entered ts (numbers_of ns (file_names bs))
     all_tested l a = lengths l ∙ ap (λ b. cond b (entered ts (numbers_of ns (file_names bs))) (Err NameLength)) a
 
 -- a refusal says why, and leaves the names as they were
