@@ -1,12 +1,12 @@
 -- The tests in their order.
-use Rattle.std.proofs.Common.{◌≡◌, true, false, Some, Err, vec_items, sym, refl, ap, ◌∙◌, inl, inr, ⊎_elim}
+use Rattle.std.proofs.Common.{◌≡◌, true, false, map, Some, Ok, Err, vec_items, sym, refl, ap, ◌∙◌, inl, inr, ⊎_elim}
 use Rattle.std.proofs.lemmas.Result.{err_from_is_err_and}
 use Rattle.std.specs.List.{list_all}
 use Rattle.names.specs.Table.{names}
 use Rattle.sources.specs.Source.{lawful}
 use Rattle.sources.specs.Contents.{lens_of, cut, fit, name_lens, file_names, file_tokens}
 use Rattle.sources.specs.Entering.{numbers_of, table_after}
-use Rattle.sources.specs.Filed.{begun, entered, filed}
+use Rattle.sources.specs.Filed.{begun, entered, renamed, filed}
 use Rattle.sources.proofs.Laws.{renamed_lawful}
 use Rattle.sources.proofs.Filing.{file_tokens_lem, no_tokens, unlawful, bad_length, all_tested, refused, untouched}
 use Rattle.sources.proofs.file.TokenFile.read.Goals as goal
@@ -76,7 +76,7 @@ returns-in_err-numbers c =
     }
 
 pub invariant_of-result : goal.invariant_of-result
-invariant_of-result c = record { kept = renamed_lawful (vec_items c.in_ok-numbers.numbers) (vec_items c.in_ok-tokens.tokens) ∙ laws (goal.at.invariant_of-result c).After-lengths_fit }
+invariant_of-result c = record { kept = ap (λ ts. lawful (begun (map (renamed (vec_items c.in_ok-numbers.numbers)) ts))) c.into_iter.ensures.rest ∙ renamed_lawful (vec_items c.in_ok-numbers.numbers) (vec_items c.in_ok-tokens.tokens) ∙ laws (goal.at.invariant_of-result c).After-lengths_fit }
 
 pub returns : goal.returns
 returns c =
@@ -84,6 +84,6 @@ returns c =
     let n = named t (tokens_are (goal.at.returns c).In_ok-tokens) (laws (goal.at.returns c).After-lengths_fit) in
     let d = c.in_ok-numbers.ensures in
     record {
-      value = n ∙ ap (entered (vec_items c.in_ok-tokens.tokens)) (ap (numbers_of (names c.args.table.now)) (sym (names_are t)) ∙ d.value);
+      value = n ∙ ap (entered (vec_items c.in_ok-tokens.tokens)) (ap (numbers_of (names c.args.table.now)) (sym (names_are t)) ∙ d.value) ∙ ap (λ ts. Ok (begun (map (renamed (vec_items c.in_ok-numbers.numbers)) ts))) (sym c.into_iter.ensures.rest);
       entered = d.entered ∙ ap (table_after (names c.args.table.now)) (names_are t);
     }
