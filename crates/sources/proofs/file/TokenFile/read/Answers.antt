@@ -17,37 +17,8 @@ tokens_are c =
     let p = rw c.in_ok-parts.ensures.ok_part at c.parts_of.ensures in
     sym (file_tokens_lem c.args.bytes.now c.in_ok-parts.parts.records.now c.in_ok-parts.parts.names p.0 p.4 p.1) ∙ c.in_ok-tokens.ensures
 
-pub returns-in_err-tokens : goal.returns-in_err-tokens
-returns-in_err-tokens c =
-    let p = rw c.in_ok-parts.ensures.ok_part at c.parts_of.ensures in
-    let q = err_from_is_err_and c.from_residual-in_err-tokens.result c.from_residual-in_err-tokens.ensures.1 in
-    let h : c.from_residual-in_err-tokens.result ≡ Err c.in_err-tokens.field-0.0 = q.1 ∙ ap Err q.2 in
-    let none = file_tokens_lem c.args.bytes.now c.in_ok-parts.parts.records.now c.in_ok-parts.parts.names p.0 p.4 p.1 in
-    record {
-      value = refused _ _ _ h (⊎_elim (λ m. inl m) (λ b. inr (no_tokens (names c.args.table.now) c.args.bytes.now c.if-bytes-gt-FILE_BYTES.false p.0 (sym none ∙ b.1) ∙ ap Err (sym b.0))) c.in_err-tokens.ensures);
-      entered = untouched _ _ _ _ h;
-    }
-
-pub returns-then-not-keep_laws : goal.returns-then-not-keep_laws
-returns-then-not-keep_laws c =
-    let p = rw c.in_ok-parts.ensures.ok_part at c.parts_of.ensures in
-    let l : lawful (begun (vec_items c.in_ok-tokens.tokens)) ≡ false = ap (λ ts. lawful (begun ts)) (sym c.deref.ensures.value) ∙ sym c.if-not-keep_laws.ensures in
-    record {
-      value = inr (unlawful (names c.args.table.now) c.args.bytes.now c.if-bytes-gt-FILE_BYTES.false p.0 _ (tokens_are (goal.at.returns-then-not-keep_laws c).In_ok-tokens) l);
-      entered = refl;
-    }
-
 laws : (c : After-lengths_fit) → lawful (begun (vec_items c.in_ok-tokens.tokens)) ≡ true
 laws c = ap (λ ts. lawful (begun ts)) (sym c.deref.ensures.value) ∙ sym c.if-not-keep_laws.ensures
-
-pub returns-then-not-lengths_fit : goal.returns-then-not-lengths_fit
-returns-then-not-lengths_fit c =
-    let p = rw c.in_ok-parts.ensures.ok_part at c.parts_of.ensures in
-    let a : list_all fit (name_lens c.args.bytes.now) ≡ false = ap (λ ls. list_all fit (lens_of ls)) (sym p.2) ∙ sym c.if-not-lengths_fit.ensures in
-    record {
-      value = inr (bad_length (names c.args.table.now) c.args.bytes.now c.if-bytes-gt-FILE_BYTES.false p.0 _ (tokens_are (goal.at.returns-then-not-lengths_fit c).In_ok-tokens) (laws (goal.at.returns-then-not-lengths_fit c).After-lengths_fit) a);
-      entered = refl;
-    }
 
 -- where all tests are met, the names decide
 named : (c : After-enter_names) → file_tokens c.args.bytes.now ≡ Some (vec_items c.in_ok-tokens.tokens) → lawful (begun (vec_items c.in_ok-tokens.tokens)) ≡ true → filed (names c.args.table.now) c.args.bytes.now ≡ entered (vec_items c.in_ok-tokens.tokens) (numbers_of (names c.args.table.now) (file_names c.args.bytes.now))

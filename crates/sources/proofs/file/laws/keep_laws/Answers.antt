@@ -8,10 +8,6 @@ pub returns-then-not-may_follow : goal.returns-then-not-may_follow
 returns-then-not-may_follow c =
     keeps_stop c.loop-token.seen c.loop-token.fresh c.args.tokens.now c.loop-token.token-index _ c.loop-token-test.true c.if-not-may_follow.ensures ∙ c.loop-token.invariant ∙ keeps_lawful c.args.tokens.now
 
-pub loop-token-preserved : goal.loop-token-preserved
-loop-token-preserved c =
-    keeps_on c.loop-token.seen c.loop-token.fresh c.args.tokens.now c.loop-token.token-index _ c.is_new_line-fresh.result c.loop-token-test.true c.if-not-may_follow.ensures c.is_new_line-fresh.ensures ∙ c.loop-token.invariant
-
 pub returns : goal.returns
 returns c =
     sym (at_drop_all (keeps c.loop-token.seen c.loop-token.fresh) c.args.tokens.now c.loop-token.token-index c.loop-token-test.false) ∙ c.loop-token.invariant ∙ keeps_lawful c.args.tokens.now
