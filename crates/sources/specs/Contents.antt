@@ -3,7 +3,7 @@
 -- length_bytes bs, text_bytes bs, record_bytes bs: the bytes of the lengths, of the names, and of the tokens; name_lens bs: the lengths
 -- shaped bs: the file is as long as its counts and lengths say
 -- cut ns ts: the bytes ts cut into names of the lengths ns; file_names bs: the names; file_tokens bs: the tokens, none where a field is out of range
-use Rattle.std.specs.Prelude.{ℕ, ◌+◌, ◌*◌, ◌/◌, Bool, true, false, cond, ◌&&◌, List, [], ◌∷◌, map, length, take, drop, Option, ◌==◌, nat_le, sum}
+use Rattle.std.specs.Prelude.{ℕ, ◌+◌, ◌*◌, ◌/◌, Bool, false, cond, ◌&&◌, List, [], ◌∷◌, map, length, take, drop, Option, ◌==◌, nat_le, sum}
 use Rattle.std.specs.Simd.{first_chunks}
 use Rattle.tokens.specs.declared.lexer.LexerToken.{LexerToken}
 use Rattle.sources.specs.Bytes.{two, four}

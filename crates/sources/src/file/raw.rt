@@ -18,7 +18,32 @@ impl From<[u8; 24]> for Raw {
     ghost from_gives = { λ bytes raw. raw ≡ raw_of bytes };
 
     fn from(bytes: [u8; 24]) -> Raw {
-        let [kind, marks, w0, w1, v0, v1, v2, v3, v4, v5, v6, v7, s0, s1, s2, s3, e0, e1, e2, e3, l0, l1, l2, l3] = bytes;
+        let [
+            kind,
+            marks,
+            w0,
+            w1,
+            v0,
+            v1,
+            v2,
+            v3,
+            v4,
+            v5,
+            v6,
+            v7,
+            s0,
+            s1,
+            s2,
+            s3,
+            e0,
+            e1,
+            e2,
+            e3,
+            l0,
+            l1,
+            l2,
+            l3,
+        ] = bytes;
         Raw {
             kind,
             marks,

@@ -1,14 +1,14 @@
 -- The tests in their order.
-use Rattle.std.proofs.Common.{◌≡◌, true, false, map, Some, Ok, Err, vec_items, sym, refl, ap, ◌∙◌, inl, inr, ⊎_elim}
+use Rattle.std.proofs.Common.{◌≡◌, true, map, Some, Ok, vec_items, sym, ap, ◌∙◌, inl, inr, ⊎_elim}
 use Rattle.std.proofs.lemmas.Result.{err_from_is_err_and}
 use Rattle.std.specs.List.{list_all}
 use Rattle.names.specs.Table.{names}
 use Rattle.sources.specs.Source.{lawful}
 use Rattle.sources.specs.Contents.{lens_of, cut, fit, name_lens, file_names, file_tokens}
-use Rattle.sources.specs.Entering.{numbers_of, table_after}
+use Rattle.sources.specs.Entering.{numbers_of}
 use Rattle.sources.specs.Filed.{begun, entered, renamed, filed}
 use Rattle.sources.proofs.Laws.{renamed_lawful}
-use Rattle.sources.proofs.Filing.{file_tokens_lem, no_tokens, unlawful, bad_length, all_tested, refused, untouched}
+use Rattle.sources.proofs.Filing.{file_tokens_lem, all_tested}
 use Rattle.sources.proofs.file.TokenFile.read.Goals as goal
 use Rattle.sources.proofs.file.TokenFile.read.Goals.{In_ok-tokens, After-lengths_fit, After-enter_names}
 
@@ -34,27 +34,20 @@ names_are c =
     let ts = p.3 in
     λ i. cut (lens_of (ls i)) (ts i)
 
-pub returns-in_err-numbers : goal.returns-in_err-numbers
-returns-in_err-numbers c =
-    let t = (goal.at.returns-in_err-numbers c).After-enter_names in
-    let n = named t (tokens_are (goal.at.returns-in_err-numbers c).In_ok-tokens) (laws (goal.at.returns-in_err-numbers c).After-lengths_fit) in
+pub returns-in_err-numbers-clause-value : goal.returns-in_err-numbers-clause-value
+returns-in_err-numbers-clause-value c =
+    let t = (goal.at.returns-in_err-numbers-clause-value c).After-enter_names in
+    let n = named t (tokens_are (goal.at.returns-in_err-numbers-clause-value c).In_ok-tokens) (laws (goal.at.returns-in_err-numbers-clause-value c).After-lengths_fit) in
     let d = c.in_err-numbers.ensures in
     let q = err_from_is_err_and c.from_residual-in_err-numbers.result c.from_residual-in_err-numbers.ensures.1 in
-    let h : c.from_residual-in_err-numbers.result ≡ Err c.in_err-numbers.field-0.0 = q.1 ∙ ap Err q.2 in
-    record {
-      value = refused _ _ _ h (⊎_elim (λ m. inl m) (λ b. inr (n ∙ ap (entered (vec_items c.in_ok-tokens.tokens)) (ap (numbers_of (names c.args.table.now)) (sym (names_are t)) ∙ b))) d.value);
-      entered = d.entered ∙ untouched _ _ _ _ h;
-    }
+    rw (q.1, q.2) (⊎_elim (λ m. inl m) (λ b. inr (n ∙ ap (entered (vec_items c.in_ok-tokens.tokens)) (ap (numbers_of (names c.args.table.now)) (sym (names_are t)) ∙ b))) d.value)
 
 pub invariant_of-result : goal.invariant_of-result
 invariant_of-result c = record { kept = ap (λ ts. lawful (begun (map (renamed (vec_items c.in_ok-numbers.numbers)) ts))) c.into_iter.ensures.rest ∙ renamed_lawful (vec_items c.in_ok-numbers.numbers) (vec_items c.in_ok-tokens.tokens) ∙ laws (goal.at.invariant_of-result c).After-lengths_fit }
 
-pub returns : goal.returns
-returns c =
-    let t = (goal.at.returns c).After-enter_names in
-    let n = named t (tokens_are (goal.at.returns c).In_ok-tokens) (laws (goal.at.returns c).After-lengths_fit) in
+pub returns-clause-value : goal.returns-clause-value
+returns-clause-value c =
+    let t = (goal.at.returns-clause-value c).After-enter_names in
+    let n = named t (tokens_are (goal.at.returns-clause-value c).In_ok-tokens) (laws (goal.at.returns-clause-value c).After-lengths_fit) in
     let d = c.in_ok-numbers.ensures in
-    record {
-      value = n ∙ ap (entered (vec_items c.in_ok-tokens.tokens)) (ap (numbers_of (names c.args.table.now)) (sym (names_are t)) ∙ d.value) ∙ ap (λ ts. Ok (begun (map (renamed (vec_items c.in_ok-numbers.numbers)) ts))) (sym c.into_iter.ensures.rest);
-      entered = d.entered ∙ ap (table_after (names c.args.table.now)) (names_are t);
-    }
+    n ∙ ap (entered (vec_items c.in_ok-tokens.tokens)) (ap (numbers_of (names c.args.table.now)) (sym (names_are t)) ∙ d.value) ∙ ap (λ ts. Ok (begun (map (renamed (vec_items c.in_ok-numbers.numbers)) ts))) (sym c.into_iter.ensures.rest)

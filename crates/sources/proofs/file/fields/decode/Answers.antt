@@ -1,8 +1,7 @@
 -- One record gives one token, or the file is refused.
-use Rattle.std.proofs.Common.{◌+◌, drop, vec_items, sym, refl, ap, ◌∙◌, inr}
-use Rattle.std.proofs.lemmas.Result.{err_from_is_err_and}
+use Rattle.std.proofs.Common.{◌+◌, drop, vec_items, sym, ap, ◌∙◌}
 use Rattle.sources.specs.Fields.{tokens_of}
-use Rattle.sources.proofs.Decoding.{behind, lost, refused, decoded, all_decoded}
+use Rattle.sources.proofs.Decoding.{behind, decoded}
 use Rattle.sources.proofs.file.fields.decode.Goals as goal
 
 pub loop-record-preserved : goal.loop-record-preserved

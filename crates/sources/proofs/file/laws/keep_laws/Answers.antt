@@ -1,7 +1,7 @@
 -- One token's marks decide, then those after it.
 use Rattle.std.proofs.Common.{sym, ◌∙◌}
 use Rattle.std.proofs.lemmas.List.{at_drop_all}
-use Rattle.sources.proofs.Laws.{keeps, keeps_lawful, keeps_stop, keeps_on}
+use Rattle.sources.proofs.Laws.{keeps, keeps_lawful, keeps_stop}
 use Rattle.sources.proofs.file.laws.keep_laws.Goals as goal
 
 pub returns-then-not-may_follow : goal.returns-then-not-may_follow
