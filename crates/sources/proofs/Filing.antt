@@ -1,25 +1,23 @@
 -- What a token file means, test by test.
-use Rattle.std.proofs.Common.{◌≡◌, ℕ, ◌+◌, ◌-◌, ◌*◌, ◌/◌, ◌≤◌, true, false, cond, ◌&&◌, eqb, leb, ◌⊎◌, List, length, drop, is_ok, Some, None, Err, Result, sym, ap, ◌∙◌, subst, arith}
+use Rattle.std.proofs.Common.{◌≡◌, ℕ, ◌+◌, ◌-◌, ◌*◌, ◌/◌, ◌≤◌, true, cond, ◌&&◌, eqb, leb, List, length, drop, sum, Some, Err, ap, ◌∙◌, arith}
 use Rattle.std.specs.Simd.{first_chunks}
+use Rattle.std.specs.List.{list_all}
 use Rattle.std.proofs.lemmas.List.{length-drop}
 use Rattle.std.proofs.lemmas.Bool.{and_parts, and_from, eqb-true, le-leb}
-use Rattle.tokens.specs.declared.fault.Refusal.{Refusal}
-use Rattle.tokens.specs.declared.fault.Refusal.TheVariants.{NameLength, BadFile, Memory}
+use Rattle.tokens.specs.declared.fault.Refusal.TheVariants.{NameLength, BadFile}
 use Rattle.tokens.specs.declared.lexer.LexerToken.{LexerToken}
-use Rattle.sources.specs.Source.{Tokens, lawful}
+use Rattle.sources.specs.Source.{lawful}
 use Rattle.sources.specs.Bytes.{four}
 use Rattle.sources.specs.Fields.{tokens_of}
-use Rattle.sources.specs.Contents.{total, all_fit, bodies, name_lens, record_bytes, shaped, file_names, file_tokens}
+use Rattle.sources.specs.Contents.{fit, bodies, name_lens, record_bytes, shaped, file_names, file_tokens}
 use Rattle.sources.specs.Entering.{numbers_of}
 use Rattle.sources.specs.Filed.{begun, entered, named, checked, filed}
-use Rattle.sources.specs.FileSource.{Filing}
-use Rattle.sources.specs.declared.file.TokenFile.{TokenFile}
 
 record_count : (bs : List ℕ) → shaped bs ≡ true → length (record_bytes bs) / 24 ≡ four bs 4
 record_count bs s =
-    let p = and_parts (leb 8 (length bs)) (leb (2 * four bs 0) (length (drop 8 bs)) && eqb (length (bodies bs)) (total (name_lens bs) + 24 * four bs 4)) s in
-    let q = and_parts (leb (2 * four bs 0) (length (drop 8 bs))) (eqb (length (bodies bs)) (total (name_lens bs) + 24 * four bs 4)) p.1 in
-    count (length (bodies bs)) (total (name_lens bs)) (four bs 4) (length (record_bytes bs)) (eqb-true (length (bodies bs)) (total (name_lens bs) + 24 * four bs 4) q.1) (length-drop (total (name_lens bs)) (bodies bs))
+    let p = and_parts (leb 8 (length bs)) (leb (2 * four bs 0) (length (drop 8 bs)) && eqb (length (bodies bs)) (sum (name_lens bs) + 24 * four bs 4)) s in
+    let q = and_parts (leb (2 * four bs 0) (length (drop 8 bs))) (eqb (length (bodies bs)) (sum (name_lens bs) + 24 * four bs 4)) p.1 in
+    count (length (bodies bs)) (sum (name_lens bs)) (four bs 4) (length (record_bytes bs)) (eqb-true (length (bodies bs)) (sum (name_lens bs) + 24 * four bs 4) q.1) (length-drop (sum (name_lens bs)) (bodies bs))
   where
     count : (b t m r : ℕ) → b ≡ t + 24 * m → r ≡ b - t → r / 24 ≡ m
     count b t m r e f = omega arith
@@ -33,28 +31,12 @@ module _ (ns : List (List ℕ)) (bs : List ℕ) (size : length bs ≤ 65536) (s 
   read : filed ns bs ≡ checked ns bs (file_tokens bs)
   read = ap (λ b. cond b (checked ns bs (file_tokens bs)) (Err BadFile)) (and_from (leb (length bs) 65536) (shaped bs) (le-leb (length bs) 65536 size) s)
 
-  pub no_tokens : file_tokens bs ≡ None → filed ns bs ≡ Err BadFile
-  no_tokens e = read ∙ ap (checked ns bs) e
-
   module _ (ts : List LexerToken) (e : file_tokens bs ≡ Some ts) where
     tested : filed ns bs ≡ cond (lawful (begun ts)) (named ns bs ts) (Err BadFile)
     tested = read ∙ ap (checked ns bs) e
 
-    pub unlawful : lawful (begun ts) ≡ false → filed ns bs ≡ Err BadFile
-    unlawful l = tested ∙ ap (λ b. cond b (named ns bs ts) (Err BadFile)) l
-
     lengths : lawful (begun ts) ≡ true → filed ns bs ≡ named ns bs ts
     lengths l = tested ∙ ap (λ b. cond b (named ns bs ts) (Err BadFile)) l
 
-    pub bad_length : lawful (begun ts) ≡ true → all_fit (name_lens bs) ≡ false → filed ns bs ≡ Err NameLength
-    bad_length l a = lengths l ∙ ap (λ b. cond b (entered ts (numbers_of ns (file_names bs))) (Err NameLength)) a
-
-    pub all_tested : lawful (begun ts) ≡ true → all_fit (name_lens bs) ≡ true → filed ns bs ≡ entered ts (numbers_of ns (file_names bs))
+    pub all_tested : lawful (begun ts) ≡ true → list_all fit (name_lens bs) ≡ true → filed ns bs ≡ entered ts (numbers_of ns (file_names bs))
     all_tested l a = lengths l ∙ ap (λ b. cond b (entered ts (numbers_of ns (file_names bs))) (Err NameLength)) a
-
--- a refusal says why, and leaves the names as they were
-pub refused : (r : Result TokenFile Refusal) (e : Refusal) (m : Result Tokens Refusal) → r ≡ Err e → (e ≡ Memory) ⊎ (m ≡ Err e) → Filing r m
-refused r e m h k = subst (λ x. Filing x m) (sym h) k
-
-pub untouched : (r : Result TokenFile Refusal) (e : Refusal) (ms ns : List (List ℕ)) → r ≡ Err e → ns ≡ cond (is_ok r) ms ns
-untouched r e ms ns h = sym (ap (λ x. cond (is_ok x) ms ns) h)

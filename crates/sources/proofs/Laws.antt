@@ -54,11 +54,6 @@ keeps_stop seen fresh ts i d h e =
     let t = get_or ts i d in
     ap (λ b. b && keeps t.had_comments (is_newline t.value) (drop (i + 1) ts)) e ∙ sym (at_drop_more (keeps seen fresh) ts i d h)
 
-pub keeps_on : (seen fresh : Bool) (ts : List LexerToken) (i : ℕ) (d : LexerToken) (n : Bool) → i < length ts → true ≡ follows seen fresh (get_or ts i d) → n ≡ is_newline (get_or ts i d).value → keeps (get_or ts i d).had_comments n (drop (i + 1) ts) ≡ keeps seen fresh (drop i ts)
-keeps_on seen fresh ts i d n h e f =
-    let t = get_or ts i d in
-    (λ j. e j && keeps t.had_comments (f j) (drop (i + 1) ts)) ∙ sym (at_drop_more (keeps seen fresh) ts i d h)
-
 ended_on : (c : Closing) (t : LexerToken) (ts : List LexerToken) → ended c (t ∷ ts) ≡ true → ended c ts ≡ true
 ended_on End t [] e = refl
 ended_on End t (u ∷ us) e = e

@@ -2,6 +2,5 @@
 pub mod Reading
 pub mod Decoding
 pub mod Laws
-pub mod Lengths
 pub mod Numbering
 pub mod Filing

@@ -2,9 +2,10 @@
 -- begun ts: what a source over the tokens ts, closed by End, means at first
 -- follows seen fresh t: the marks of t are lawful where seen is the comments mark so far, and fresh whether a line may start here
 -- renamed is t: t with the place of a name in the file replaced by its number, which stands there in is
--- to_come ts is at last: what a source over the tokens ts means where at of them are delivered, the last as last
+-- to_come ts is last: what a source means that has yet to deliver the tokens ts, and delivered last as the last
 -- filed ns bs: what the file's bytes bs mean with a table that holds the names ns, or why the file is refused; the tests come in this order
-use Rattle.std.specs.Prelude.{ℕ, Bool, true, false, cond, ◌&&◌, List, map, length, drop, Some, None, Ok, Err, Option, Result, nat_le, slice_index}
+use Rattle.std.specs.Prelude.{ℕ, Bool, true, false, cond, ◌&&◌, List, map, length, Some, None, Ok, Err, Option, Result, nat_le, slice_index}
+use Rattle.std.specs.List.{list_all}
 use Rattle.tokens.specs.declared.fault.Refusal.{Refusal}
 use Rattle.tokens.specs.declared.fault.Refusal.TheVariants.{NameLength, BadFile}
 use Rattle.tokens.specs.declared.lexer.LexerTokenValue.{LexerTokenValue}
@@ -13,7 +14,7 @@ use Rattle.tokens.specs.declared.lexer.LexerToken.{LexerToken}
 use Rattle.tokens.specs.declared.lexer.Closing.TheVariants.{End}
 use Rattle.sources.specs.Source.{Tokens, lawful}
 use Rattle.sources.specs.Mending.{seen_behind, fresh_behind}
-use Rattle.sources.specs.Contents.{shaped, name_lens, all_fit, file_names, file_tokens}
+use Rattle.sources.specs.Contents.{shaped, fit, name_lens, file_names, file_tokens}
 use Rattle.sources.specs.Entering.{numbers_of}
 
 abbrev pub begun : List LexerToken → Tokens
@@ -34,15 +35,15 @@ abbrev pub renamed : List ℕ → LexerToken → LexerToken
 renamed is t =
     record { value = numbered is t.value; location = t.location; leading_whitespace = t.leading_whitespace; start_of_line = t.start_of_line; had_comments = t.had_comments }
 
-abbrev pub to_come : List LexerToken → List ℕ → ℕ → Option LexerToken → Tokens
-to_come ts is at last = record { rest = map (renamed is) (drop at ts); closing = End; seen = seen_behind last; fresh = fresh_behind last }
+abbrev pub to_come : List LexerToken → List ℕ → Option LexerToken → Tokens
+to_come ts is last = record { rest = map (renamed is) ts; closing = End; seen = seen_behind last; fresh = fresh_behind last }
 
 abbrev pub entered : List LexerToken → Result (List ℕ) Refusal → Result Tokens Refusal
 entered ts (Ok is) = Ok (begun (map (renamed is) ts))
 entered ts (Err e) = Err e
 
 abbrev pub named : List (List ℕ) → List ℕ → List LexerToken → Result Tokens Refusal
-named ns bs ts = cond (all_fit (name_lens bs)) (entered ts (numbers_of ns (file_names bs))) (Err NameLength)
+named ns bs ts = cond (list_all fit (name_lens bs)) (entered ts (numbers_of ns (file_names bs))) (Err NameLength)
 
 abbrev pub checked : List (List ℕ) → List ℕ → Option (List LexerToken) → Result Tokens Refusal
 checked ns bs None = Err BadFile

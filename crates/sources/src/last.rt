@@ -9,18 +9,12 @@ use tokens::lexer::LexerToken;
 pub(crate) fn seen_after(last: Option<LexerToken>) -> bool
     ensures { result ≡ seen_behind last }
 {
-    match last {
-        Some(token) => token.had_comments,
-        None => false,
-    }
+    last.is_some_and(|token| token.had_comments)
 }
 
 // Whether the next token may be marked line start.
 pub(crate) fn fresh_after(last: Option<LexerToken>) -> bool
     ensures { result ≡ fresh_behind last }
 {
-    match last {
-        Some(token) => is_new_line(token.value),
-        None => true,
-    }
+    last.is_none_or(|token| is_new_line(token.value))
 }

@@ -7,8 +7,5 @@ use tokens::lexer::LexerTokenValue;
 pub fn is_new_line(value: LexerTokenValue) -> bool
     ensures { result ≡ is_newline value }
 {
-    match value {
-        LexerTokenValue::NewLine => true,
-        _ => false,
-    }
+    matches!(value, LexerTokenValue::NewLine)
 }

@@ -1,10 +1,9 @@
 // Entering a file's names into the table of names.
-ghost use Rattle.std.specs.Prelude.{◌≡◌, ◌≤◌, true, length, is_ok, if◌then◌else◌};
+ghost use Rattle.std.specs.Prelude.{◌≡◌, ◌≤◌, true, length, sum, is_ok, if◌then◌else◌};
 ghost use Rattle.names.specs.Table.{names};
-ghost use Rattle.sources.specs.Contents.{lens_of, total, cut};
+ghost use Rattle.sources.specs.Contents.{lens_of, cut};
 ghost use Rattle.sources.specs.Entering.{numbers_of, table_after, Grown, Numbered};
 
-use super::bytes::u16_at;
 use names::table::Names;
 use std::alloc::Global;
 use tokens::fault::Refusal;
@@ -16,7 +15,7 @@ fn number_names(
     lengths: &[u8],
     text: &[u8],
 ) -> Result<Vec<u32>, Refusal>
-    requires { total (lens_of lengths.now) ≤ length text.now }
+    requires { sum (lens_of lengths.now) ≤ length text.now }
     ensures value { Numbered result (numbers_of (names table.old) (cut (lens_of lengths.now) text.now)) }
     ensures entered { is_ok result ≡ true → names table.new ≡ table_after (names table.old) (cut (lens_of lengths.now) text.now) }
     ensures grows { Grown (names table.old) (names table.new) }
@@ -25,11 +24,9 @@ fn number_names(
     let mut numbers = Vec::new(heap);
     let mut rest = text;
     for pair in pairs {
-        let (name, left) = rest.split_at(u16_at(pair, 0) as usize);
+        let (name, left) = rest.split_at(u16::from_le_bytes(*pair) as usize);
         let number = table.intern(name)?;
-        let Ok(_) = numbers.push(number) else {
-            return Err(Refusal::Memory);
-        };
+        numbers.push(number)?;
         rest = left;
     }
     Ok(numbers)
@@ -42,7 +39,7 @@ pub(crate) fn enter_names(
     lengths: &[u8],
     text: &[u8],
 ) -> Result<Vec<u32>, Refusal>
-    requires { total (lens_of lengths.now) ≤ length text.now }
+    requires { sum (lens_of lengths.now) ≤ length text.now }
     ensures value { Numbered result (numbers_of (names table.old) (cut (lens_of lengths.now) text.now)) }
     ensures entered { names table.new ≡ (if is_ok result then table_after (names table.old) (cut (lens_of lengths.now) text.now) else names table.old) }
 {

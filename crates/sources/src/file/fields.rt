@@ -3,13 +3,12 @@ ghost use Rattle.std.specs.Prelude.{◌≡◌, ◌/◌, length};
 ghost use Rattle.std.specs.Simd.{first_chunks};
 ghost use Rattle.sources.specs.Fields.{value_of, decoded_token, tokens_of, Decoded};
 
-use super::bytes::raw_at;
 use super::raw::Raw;
 use std::alloc::Global;
 use tokens::fault::Refusal;
 use tokens::lexer::{LexerToken, LexerTokenValue};
 use tokens::location::Location;
-use tokens::punct::punct_of;
+use tokens::punct::Punct;
 use tokens::token::{Float, Integer};
 
 fn value_of(raw: Raw, names: u32) -> Option<LexerTokenValue>
@@ -27,7 +26,10 @@ fn value_of(raw: Raw, names: u32) -> Option<LexerTokenValue>
             bits: raw.value as u32,
             width: raw.width,
         })),
-        3 if plain && raw.value < 45 => Some(LexerTokenValue::Punct(punct_of(raw.value as u8)?)),
+        3 if plain && raw.value < 45 => {
+            let punct = Punct::try_from(raw.value as u8).ok()?;
+            Some(LexerTokenValue::Punct(punct))
+        }
         4 if plain && raw.value == 0 => Some(LexerTokenValue::Hash),
         5 if plain && raw.value == 0 => Some(LexerTokenValue::NewLine),
         _ => None,
@@ -58,12 +60,8 @@ pub(crate) fn decode(heap: Global, bytes: &[u8], names: u32) -> Result<Vec<Lexer
     let (records, _) = bytes.as_chunks::<24>();
     let mut out = Vec::new(heap);
     for record in records {
-        let Some(token) = token_of(raw_at(record), names) else {
-            return Err(Refusal::BadFile);
-        };
-        let Ok(_) = out.push(token) else {
-            return Err(Refusal::Memory);
-        };
+        let token = token_of(Raw::from(*record), names).ok_or(Refusal::BadFile)?;
+        out.push(token)?;
     }
     Ok(out)
 }

@@ -1,9 +1,8 @@
 // The parts of a token file: two counts, the lengths of the names, the names' bytes, and 24 bytes a token.
-ghost use Rattle.std.specs.Prelude.{◌≡◌, ◌*◌, ◌<◌, ◌≤◌, true, false, length, drop, MatchOption};
+ghost use Rattle.std.specs.Prelude.{◌≡◌, ◌*◌, ◌<◌, ◌≤◌, true, false, length, drop, sum, MatchOption};
+ghost use Rattle.std.specs.List.{list_all};
 ghost use Rattle.sources.specs.Bytes.{four};
-ghost use Rattle.sources.specs.Contents.{lens_of, total, fit, all_fit, shaped, length_bytes, text_bytes, record_bytes};
-
-use super::bytes::u16_at;
+ghost use Rattle.sources.specs.Contents.{lens_of, fit, shaped, length_bytes, text_bytes, record_bytes};
 
 #[derive(Clone, Copy)]
 pub struct Parts<'a> {
@@ -29,36 +28,32 @@ fn counts(bytes: &[u8]) -> Option<(u32, u32, &[u8])>
 }
 
 // The sum of the lengths, 2 bytes each.
-fn total_of(lengths: &[u8]) -> usize
+fn total_of(lengths: &[u8]) -> u32
     requires { length lengths.now ≤ 65536 }
-    ensures value { result ≡ total (lens_of lengths.now) }
-    ensures within { result ≤ 65535 * 65536 }
+    ensures { result ≡ sum (lens_of lengths.now) }
 {
     let (pairs, _) = lengths.as_chunks::<2>();
-    let mut sum = 0;
-    for pair in pairs {
-        sum += u16_at(pair, 0) as usize;
-    }
-    sum
+    pairs
+        .iter()
+        .map(|pair| u16::from_le_bytes(*pair) as u32)
+        .sum()
 }
 
 fn length_fits(len: u16) -> bool
     ensures { result ≡ fit len }
 {
-    len > 0 && len <= NAME_LEN
+    (1..=NAME_LEN).contains(&len)
 }
 
 // Whether every name has 1 to 1,024 bytes.
 pub(crate) fn lengths_fit(lengths: &[u8]) -> bool
-    ensures { result ≡ all_fit (lens_of lengths.now) }
+    ensures { result ≡ list_all fit (lens_of lengths.now) }
 {
     let (pairs, _) = lengths.as_chunks::<2>();
-    for pair in pairs {
-        if !length_fits(u16_at(pair, 0)) {
-            return false;
-        }
-    }
-    true
+    pairs
+        .iter()
+        .map(|pair| u16::from_le_bytes(*pair))
+        .all(length_fits)
 }
 
 // The parts, none where the file is shorter or longer than its counts and lengths say.
@@ -67,12 +62,8 @@ pub(crate) fn parts_of(bytes: &[u8]) -> Option<Parts<'_>>
     ensures { MatchOption result (shaped bytes.now ≡ false) (λ p. (shaped bytes.now ≡ true) × (p.names ≡ four bytes.now 0) × (p.lengths.now ≡ length_bytes bytes.now) × (p.text.now ≡ text_bytes bytes.now) × (p.records.now ≡ record_bytes bytes.now)) }
 {
     let (names, tokens, rest) = counts(bytes)?;
-    let size = 2 * names as usize;
-    if rest.len() < size {
-        return None;
-    }
-    let (lengths, bodies) = rest.split_at(size);
-    let sum = total_of(lengths);
+    let (lengths, bodies) = rest.split_at_checked(2 * names as usize)?;
+    let sum = total_of(lengths) as usize;
     if bodies.len() != sum + 24 * tokens as usize {
         return None;
     }

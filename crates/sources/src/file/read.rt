@@ -29,9 +29,7 @@ impl TokenFile {
         if bytes.len() > FILE_BYTES {
             return Err(Refusal::BadFile);
         }
-        let Some(parts) = parts_of(bytes) else {
-            return Err(Refusal::BadFile);
-        };
+        let parts = parts_of(bytes).ok_or(Refusal::BadFile)?;
         let tokens = decode(heap, parts.records, parts.names)?;
         if !keep_laws(&tokens) {
             return Err(Refusal::BadFile);
@@ -41,9 +39,8 @@ impl TokenFile {
         }
         let numbers = enter_names(heap, table, parts.lengths, parts.text)?;
         Ok(TokenFile {
-            tokens,
+            tokens: tokens.into_iter(),
             numbers,
-            at: 0,
             last: None,
         })
     }
@@ -52,8 +49,7 @@ impl TokenFile {
 fn number_at(numbers: &[u32], place: u32) -> u32
     ensures { result ≡ slice_index numbers.now place }
 {
-    let i = place as usize;
-    if i < numbers.len() { numbers[i] } else { 0 }
+    numbers.get(place as usize).copied().unwrap_or(0)
 }
 
 // The token with the table's number of its name.
@@ -73,11 +69,8 @@ impl Source for TokenFile {
     ghost lawful = { λ f. f.kept };
 
     fn next(&mut self) -> Result<LexerToken, Closing> {
-        if self.at >= self.tokens.len() {
-            return Err(Closing::End);
-        }
-        let token = rename(self.tokens[self.at], &self.numbers);
-        self.at += 1;
+        let next = self.tokens.next().ok_or(Closing::End)?;
+        let token = rename(next, &self.numbers);
         self.last = Some(token);
         Ok(token)
     }

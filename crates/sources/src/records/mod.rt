@@ -6,9 +6,8 @@ pub mod reads;
 // Never refuses: what breaks the laws of a source is mended as it is delivered.
 #[derive(Drop)]
 pub struct Records<'a> {
-    items: &'a [LexerToken],
-    // how many of the items are delivered
-    at: usize,
+    // the items that are not yet delivered
+    rest: &'a [LexerToken],
     closing: Closing,
     // the last token, as it was delivered
     last: Option<LexerToken>,

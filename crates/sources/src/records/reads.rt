@@ -10,16 +10,14 @@ use crate::source::Source;
 use tokens::lexer::{Closing, LexerToken, LexerTokenValue};
 use tokens::location::Location;
 
-// The record as it is delivered after `last`.
-fn mend_record(last: Option<LexerToken>, record: LexerToken) -> LexerToken
-    ensures { result ≡ mend last «record» }
+// The token as it is delivered after `last`.
+fn mend_token(last: Option<LexerToken>, token: LexerToken) -> LexerToken
+    ensures { result ≡ mend last token }
 {
     LexerToken {
-        value: record.value,
-        location: record.location,
-        leading_whitespace: record.leading_whitespace,
-        start_of_line: record.start_of_line && fresh_after(last),
-        had_comments: record.had_comments || seen_after(last),
+        start_of_line: token.start_of_line && fresh_after(last),
+        had_comments: token.had_comments || seen_after(last),
+        ..token
     }
 }
 
@@ -52,8 +50,7 @@ impl<'a> Records<'a> {
         ensures { meant result ≡ record { rest = mended None closing items.now; closing = closing; seen = false; fresh = true } }
     {
         Records {
-            items,
-            at: 0,
+            rest: items,
             closing,
             last: None,
         }
@@ -66,9 +63,9 @@ impl<'a> Source for Records<'a> {
     ghost lawful = { meant_lawful };
 
     fn next(&mut self) -> Result<LexerToken, Closing> {
-        if self.at < self.items.len() {
-            let token = mend_record(self.last, self.items[self.at]);
-            self.at += 1;
+        if let Some((first, rest)) = self.rest.split_first() {
+            let token = mend_token(self.last, *first);
+            self.rest = rest;
             self.last = Some(token);
             return Ok(token);
         }

@@ -27,9 +27,6 @@ listed_now c =
     let q = c.push_reserved.ensures.items in
     (λ i. listed (p i) (q i)) ∙ listed_push _ _ _ _ c.args.self.now.within (c.len-start.ensures ∙ c.args.self.now.bytes.ok.0) refl
 
-pub push_reserved-requires : goal.push_reserved-requires
-push_reserved-requires c = omega (arith, simp length-map at c.requires.few, c.args.self.now.spans.ok.0, c.args.self.now.wide)
-
 pub invariant_of-self : goal.invariant_of-self
 invariant_of-self c =
     let p = bytes_now c in

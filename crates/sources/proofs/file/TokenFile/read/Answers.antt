@@ -1,88 +1,53 @@
 -- The tests in their order.
-use Rattle.std.proofs.Common.{◌≡◌, true, false, Some, Err, vec_items, sym, refl, ap, ◌∙◌, inl, inr, ⊎_elim}
+use Rattle.std.proofs.Common.{◌≡◌, true, map, Some, Ok, vec_items, sym, ap, ◌∙◌, inl, inr, ⊎_elim}
 use Rattle.std.proofs.lemmas.Result.{err_from_is_err_and}
+use Rattle.std.specs.List.{list_all}
 use Rattle.names.specs.Table.{names}
 use Rattle.sources.specs.Source.{lawful}
-use Rattle.sources.specs.Contents.{lens_of, cut, all_fit, name_lens, file_names, file_tokens}
-use Rattle.sources.specs.Entering.{numbers_of, table_after}
-use Rattle.sources.specs.Filed.{begun, entered, filed}
+use Rattle.sources.specs.Contents.{lens_of, cut, fit, name_lens, file_names, file_tokens}
+use Rattle.sources.specs.Entering.{numbers_of}
+use Rattle.sources.specs.Filed.{begun, entered, renamed, filed}
 use Rattle.sources.proofs.Laws.{renamed_lawful}
-use Rattle.sources.proofs.Filing.{file_tokens_lem, no_tokens, unlawful, bad_length, all_tested, refused, untouched}
+use Rattle.sources.proofs.Filing.{file_tokens_lem, all_tested}
 use Rattle.sources.proofs.file.TokenFile.read.Goals as goal
 use Rattle.sources.proofs.file.TokenFile.read.Goals.{In_ok-tokens, After-lengths_fit, After-enter_names}
 
 tokens_are : (c : In_ok-tokens) → file_tokens c.args.bytes.now ≡ Some (vec_items c.in_ok-tokens.tokens)
 tokens_are c =
-    let p = c.in-Some.ensures in
-    sym (file_tokens_lem c.args.bytes.now c.in-Some.parts.records.now c.in-Some.parts.names p.0 p.4 p.1) ∙ c.in_ok-tokens.ensures
-
-pub returns-in_err-tokens : goal.returns-in_err-tokens
-returns-in_err-tokens c =
-    let p = c.in-Some.ensures in
-    let q = err_from_is_err_and c.from_residual.result c.from_residual.ensures.1 in
-    let h : c.from_residual.result ≡ Err c.in_err-tokens.field-0.0 = q.1 ∙ ap Err q.2 in
-    let none = file_tokens_lem c.args.bytes.now c.in-Some.parts.records.now c.in-Some.parts.names p.0 p.4 p.1 in
-    record {
-      value = refused _ _ _ h (⊎_elim (λ m. inl m) (λ b. inr (no_tokens (names c.args.table.now) c.args.bytes.now c.if-bytes-gt-FILE_BYTES.false p.0 (sym none ∙ b.1) ∙ ap Err (sym b.0))) c.in_err-tokens.ensures);
-      entered = untouched _ _ _ _ h;
-    }
-
-pub returns-then-not-keep_laws : goal.returns-then-not-keep_laws
-returns-then-not-keep_laws c =
-    let p = c.in-Some.ensures in
-    let l : lawful (begun (vec_items c.in_ok-tokens.tokens)) ≡ false = ap (λ ts. lawful (begun ts)) (sym c.deref.ensures.value) ∙ sym c.if-not-keep_laws.ensures in
-    record {
-      value = inr (unlawful (names c.args.table.now) c.args.bytes.now c.if-bytes-gt-FILE_BYTES.false p.0 _ (tokens_are (goal.at.returns-then-not-keep_laws c).In_ok-tokens) l);
-      entered = refl;
-    }
+    let p = rw c.in_ok-parts.ensures.ok_part at c.parts_of.ensures in
+    sym (file_tokens_lem c.args.bytes.now c.in_ok-parts.parts.records.now c.in_ok-parts.parts.names p.0 p.4 p.1) ∙ c.in_ok-tokens.ensures
 
 laws : (c : After-lengths_fit) → lawful (begun (vec_items c.in_ok-tokens.tokens)) ≡ true
 laws c = ap (λ ts. lawful (begun ts)) (sym c.deref.ensures.value) ∙ sym c.if-not-keep_laws.ensures
 
-pub returns-then-not-lengths_fit : goal.returns-then-not-lengths_fit
-returns-then-not-lengths_fit c =
-    let p = c.in-Some.ensures in
-    let a : all_fit (name_lens c.args.bytes.now) ≡ false = ap (λ ls. all_fit (lens_of ls)) (sym p.2) ∙ sym c.if-not-lengths_fit.ensures in
-    record {
-      value = inr (bad_length (names c.args.table.now) c.args.bytes.now c.if-bytes-gt-FILE_BYTES.false p.0 _ (tokens_are (goal.at.returns-then-not-lengths_fit c).In_ok-tokens) (laws (goal.at.returns-then-not-lengths_fit c).After-lengths_fit) a);
-      entered = refl;
-    }
-
 -- where all tests are met, the names decide
 named : (c : After-enter_names) → file_tokens c.args.bytes.now ≡ Some (vec_items c.in_ok-tokens.tokens) → lawful (begun (vec_items c.in_ok-tokens.tokens)) ≡ true → filed (names c.args.table.now) c.args.bytes.now ≡ entered (vec_items c.in_ok-tokens.tokens) (numbers_of (names c.args.table.now) (file_names c.args.bytes.now))
 named c e l =
-    let p = c.in-Some.ensures in
-    let a : all_fit (name_lens c.args.bytes.now) ≡ true = ap (λ ls. all_fit (lens_of ls)) (sym p.2) ∙ sym c.if-not-lengths_fit.ensures in
+    let p = rw c.in_ok-parts.ensures.ok_part at c.parts_of.ensures in
+    let a : list_all fit (name_lens c.args.bytes.now) ≡ true = ap (λ ls. list_all fit (lens_of ls)) (sym p.2) ∙ sym c.if-not-lengths_fit.ensures in
     all_tested (names c.args.table.now) c.args.bytes.now c.if-bytes-gt-FILE_BYTES.false p.0 _ e l a
 
-names_are : (c : After-enter_names) → cut (lens_of c.in-Some.parts.lengths.now) c.in-Some.parts.text.now ≡ file_names c.args.bytes.now
+names_are : (c : After-enter_names) → cut (lens_of c.in_ok-parts.parts.lengths.now) c.in_ok-parts.parts.text.now ≡ file_names c.args.bytes.now
 names_are c =
-    let p = c.in-Some.ensures in
+    let p = rw c.in_ok-parts.ensures.ok_part at c.parts_of.ensures in
     let ls = p.2 in
     let ts = p.3 in
     λ i. cut (lens_of (ls i)) (ts i)
 
-pub returns-in_err-numbers : goal.returns-in_err-numbers
-returns-in_err-numbers c =
-    let t = (goal.at.returns-in_err-numbers c).After-enter_names in
-    let n = named t (tokens_are (goal.at.returns-in_err-numbers c).In_ok-tokens) (laws (goal.at.returns-in_err-numbers c).After-lengths_fit) in
+pub returns-in_err-numbers-clause-value : goal.returns-in_err-numbers-clause-value
+returns-in_err-numbers-clause-value c =
+    let t = (goal.at.returns-in_err-numbers-clause-value c).After-enter_names in
+    let n = named t (tokens_are (goal.at.returns-in_err-numbers-clause-value c).In_ok-tokens) (laws (goal.at.returns-in_err-numbers-clause-value c).After-lengths_fit) in
     let d = c.in_err-numbers.ensures in
     let q = err_from_is_err_and c.from_residual-in_err-numbers.result c.from_residual-in_err-numbers.ensures.1 in
-    let h : c.from_residual-in_err-numbers.result ≡ Err c.in_err-numbers.field-0.0 = q.1 ∙ ap Err q.2 in
-    record {
-      value = refused _ _ _ h (⊎_elim (λ m. inl m) (λ b. inr (n ∙ ap (entered (vec_items c.in_ok-tokens.tokens)) (ap (numbers_of (names c.args.table.now)) (sym (names_are t)) ∙ b))) d.value);
-      entered = d.entered ∙ untouched _ _ _ _ h;
-    }
+    rw (q.1, q.2) (⊎_elim (λ m. inl m) (λ b. inr (n ∙ ap (entered (vec_items c.in_ok-tokens.tokens)) (ap (numbers_of (names c.args.table.now)) (sym (names_are t)) ∙ b))) d.value)
 
 pub invariant_of-result : goal.invariant_of-result
-invariant_of-result c = record { kept = renamed_lawful (vec_items c.in_ok-numbers.numbers) (vec_items c.in_ok-tokens.tokens) ∙ laws (goal.at.invariant_of-result c).After-lengths_fit }
+invariant_of-result c = record { kept = ap (λ ts. lawful (begun (map (renamed (vec_items c.in_ok-numbers.numbers)) ts))) c.into_iter.ensures.rest ∙ renamed_lawful (vec_items c.in_ok-numbers.numbers) (vec_items c.in_ok-tokens.tokens) ∙ laws (goal.at.invariant_of-result c).After-lengths_fit }
 
-pub returns : goal.returns
-returns c =
-    let t = (goal.at.returns c).After-enter_names in
-    let n = named t (tokens_are (goal.at.returns c).In_ok-tokens) (laws (goal.at.returns c).After-lengths_fit) in
+pub returns-clause-value : goal.returns-clause-value
+returns-clause-value c =
+    let t = (goal.at.returns-clause-value c).After-enter_names in
+    let n = named t (tokens_are (goal.at.returns-clause-value c).In_ok-tokens) (laws (goal.at.returns-clause-value c).After-lengths_fit) in
     let d = c.in_ok-numbers.ensures in
-    record {
-      value = n ∙ ap (entered (vec_items c.in_ok-tokens.tokens)) (ap (numbers_of (names c.args.table.now)) (sym (names_are t)) ∙ d.value);
-      entered = d.entered ∙ ap (table_after (names c.args.table.now)) (names_are t);
-    }
+    n ∙ ap (entered (vec_items c.in_ok-tokens.tokens)) (ap (numbers_of (names c.args.table.now)) (sym (names_are t)) ∙ d.value) ∙ ap (λ ts. Ok (begun (map (renamed (vec_items c.in_ok-numbers.numbers)) ts))) (sym c.into_iter.ensures.rest)

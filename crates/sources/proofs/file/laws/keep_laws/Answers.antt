@@ -1,16 +1,12 @@
 -- One token's marks decide, then those after it.
 use Rattle.std.proofs.Common.{sym, ◌∙◌}
 use Rattle.std.proofs.lemmas.List.{at_drop_all}
-use Rattle.sources.proofs.Laws.{keeps, keeps_lawful, keeps_stop, keeps_on}
+use Rattle.sources.proofs.Laws.{keeps, keeps_lawful, keeps_stop}
 use Rattle.sources.proofs.file.laws.keep_laws.Goals as goal
 
 pub returns-then-not-may_follow : goal.returns-then-not-may_follow
 returns-then-not-may_follow c =
     keeps_stop c.loop-token.seen c.loop-token.fresh c.args.tokens.now c.loop-token.token-index _ c.loop-token-test.true c.if-not-may_follow.ensures ∙ c.loop-token.invariant ∙ keeps_lawful c.args.tokens.now
-
-pub loop-token-preserved : goal.loop-token-preserved
-loop-token-preserved c =
-    keeps_on c.loop-token.seen c.loop-token.fresh c.args.tokens.now c.loop-token.token-index _ c.is_new_line-fresh.result c.loop-token-test.true c.if-not-may_follow.ensures c.is_new_line-fresh.ensures ∙ c.loop-token.invariant
 
 pub returns : goal.returns
 returns c =
