@@ -1,5 +1,5 @@
 -- A processor only adds to the stores: what it found there is a front of what it leaves.
-use Rattle.std.proofs.Common.{◌≡◌, ℕ, ◌+◌, ◌-◌, ◌<◌, ◌≤◌, cond, eqb, ltb, [], ◌∷◌, ◌++◌, length, get_or, take, drop, Some, None, Ok, Err, Option, sym, refl, ap, ◌∙◌, subst, ⊎_elim, arith}
+use Rattle.std.proofs.Common.{◌≡◌, ℕ, ◌+◌, ◌-◌, ◌<◌, ◌≤◌, eqb, ltb, [], ◌∷◌, ◌++◌, length, get_or, take, drop, Some, None, Ok, Err, Option, sym, refl, ap, ◌∙◌, subst, ⊎_elim, arith}
 use borrow.Author.Tests.{eqb-false}
 use Rattle.std.proofs.lemmas.List.{length-take, length_push, get_or_push, get_or_append_left, get_or-take, take_all, take-take, take_at, take-append-le}
 use Rattle.std.proofs.str.Laws.{order}
@@ -17,7 +17,7 @@ use Rattle.expansion.specs.declared.invocation.Phase.{Phase}
 use Rattle.expansion.specs.declared.invocation.Phase.TheVariants.{Plain, Held, Met, Gather}
 use Rattle.expansion.specs.Delimiters.{delimits}
 use Rattle.expansion.specs.Processor.{Proc, Answer, phased, lined, idle, lowest, expanding, named}
-use Rattle.expansion.specs.Phases.{Out, passed, barred, found, entered, begun, reached, split, parted, waiting, descended, bare, counted, closed, storing, gathered, resumed, filled, returned, finished, by_name, holding, after_name, spent, meeting}
+use Rattle.expansion.specs.Phases.{Out, passed, barred, calling, found, begun, reached, split, parted, waiting, descended, bare, counted, closed, storing, gathered, resumed, filled, returned, finished, by_name, holding, after_name, spent, meeting}
 use Rattle.expansion.specs.Sane.{Above, Fronts, Went}
 use Rattle.expansion.proofs.Stacks.{by_test}
 
@@ -67,14 +67,14 @@ module _ (b : ℕ) (t : Tank) where
   begun_stays : (d : Defs) (p : Proc) (x : Token) (n : ℕ) → Above b p t → Stays b t (begun d p t x n)
   begun_stays d p x n h = by_test (Stays b t) (barred p.uses n) _ _ (λ _. passed_stays p x h) (λ _. at (find d n))
     where
-      go : (k : ℕ) (q : Proc) → q.below ≡ p.below → q.level.start ≡ p.level.start → Stays b t (cond (mean d k).function (None, phased q (Met (record { name = n; handle = k; location = x.location })), t) ((entered q n k 0).0, (entered q n k 0).1, t))
-      go k q e f = by_test (Stays b t) (mean d k).function _ _ (λ _. none _ p _ h e f) (λ _. none _ p _ h e f)
+      go : (c : Callee) (q : Proc) → q.below ≡ p.below → q.level.start ≡ p.level.start → Stays b t (calling d q t c)
+      go c q e f = by_test (Stays b t) (mean d c.handle).function _ _ (λ _. none _ p _ h e f) (λ _. none _ p _ h e f)
 
       at : (o : Option ℕ) → Stays b t (found o d p t x n)
       at None = passed_stays p x h
       at (Some k) =
-          by_test (λ (q : Proc). Stays b t (cond (mean d k).function (None, phased q (Met (record { name = n; handle = k; location = x.location })), t) ((entered q n k 0).0, (entered q n k 0).1, t)))
-          (expanding p) p (lined p x.location.line) (λ _. go k p refl refl) (λ _. go k (lined p x.location.line) refl refl)
+          let c : Callee = record { name = n; handle = k; location = x.location } in
+          by_test (λ (q : Proc). Stays b t (calling d q t c)) (expanding p) p (lined p x.location.line) (λ _. go c p refl refl) (λ _. go c (lined p x.location.line) refl refl)
 
   descended_stays : (p : Proc) (c : Call) (i : ℕ) → Above b p t → Stays b t (descended p t c i)
   descended_stays p c i h =

@@ -1,5 +1,5 @@
 -- What a phase makes of a step keeps the invariant.
-use Rattle.std.proofs.Common.{◌≡◌, ℕ, ◌+◌, ◌-◌, ◌<◌, false, cond, eqb, ltb, length, take, Some, None, Ok, Err, Option, refl, inl, arith}
+use Rattle.std.proofs.Common.{◌≡◌, ℕ, ◌+◌, ◌-◌, ◌<◌, false, eqb, ltb, length, take, Some, None, Ok, Err, Option, refl, inl, arith}
 use borrow.Author.Tests.{eqb-false}
 use Rattle.tokens.specs.declared.token.Token.{Token}
 use Rattle.tokens.specs.declared.location.Location.{Location}
@@ -16,16 +16,16 @@ use Rattle.expansion.specs.declared.invocation.Phase.{Phase}
 use Rattle.expansion.specs.declared.invocation.Phase.TheVariants.{Plain, Held, Met, Gather}
 use Rattle.expansion.specs.Delimiters.{delimits}
 use Rattle.expansion.specs.Processor.{Proc, Answer, phased, lined, lowest, expanding, named}
-use Rattle.expansion.specs.Phases.{Out, entered, passed, barred, found, begun, reached, split, parted, waiting, descended, bare, counted, closed, storing, gathered, resumed, filled, returned, finished, by_name, holding, after_name, spent, meeting}
-use Rattle.expansion.specs.Sane.{Free, FreeOf, Sane, Waits, Holds}
+use Rattle.expansion.specs.Phases.{Out, entered, passed, barred, calling, found, begun, reached, split, parted, waiting, descended, bare, counted, closed, storing, gathered, resumed, filled, returned, finished, by_name, holding, after_name, spent, meeting}
+use Rattle.expansion.specs.Sane.{FreeOf, Sane, Waits, Holds}
 use Rattle.expansion.proofs.Stacks.{unbarred, by_test, found_has, entered_sane, waiting_sane, resumed_sane, resumed_free}
 
 module _ (d : Defs) where
   abbrev Good : Out → Type 0
   Good w = Holds d w.1
 
-  entered_holds : (p : Proc) (n h k : ℕ) → Sane d p.uses p.below → Free d p.uses (length p.uses) h n → Holds d (entered p n h k).1
-  entered_holds p n h k s f = (entered_sane d p.uses p.below (record { name = n; handle = h; at = 0; reading = None }) s f, tt)
+  entered_holds : (p : Proc) (q : Callee) (k : ℕ) → Sane d p.uses p.below → FreeOf d p.uses q → Holds d (entered p q k).1
+  entered_holds p q k s f = (entered_sane d p.uses p.below (record { name = q.name; handle = q.handle; at = 0; reading = None }) s f, tt)
 
   passed_holds : (p : Proc) (t : Tank) (x : Token) → Holds d p → Good (passed p t x)
   passed_holds p t x w = by_test Good (eqb (length p.below) 0) _ _ (λ _. w) (λ _. by_test Good (roomy t) _ _ (λ _. w) (λ _. w))
@@ -33,16 +33,16 @@ module _ (d : Defs) where
   pub begun_holds : (p : Proc) (t : Tank) (x : Token) (n : ℕ) → Holds d p → Good (begun d p t x n)
   begun_holds p t x n w = by_test Good (barred p.uses n) _ _ (λ _. passed_holds p t x w) (λ b. at b (find d n) refl)
     where
-      go : (h : ℕ) (q : Proc) → Sane d q.uses q.below → Free d q.uses (length q.uses) h n → Good (cond (mean d h).function (None, phased q (Met (record { name = n; handle = h; location = x.location })), t) ((entered q n h 0).0, (entered q n h 0).1, t))
-      go h q s f = by_test Good (mean d h).function _ _ (λ _. (s, f)) (λ _. entered_holds q n h 0 s f)
+      go : (c : Callee) (q : Proc) → Sane d q.uses q.below → FreeOf d q.uses c → Good (calling d q t c)
+      go c q s f = by_test Good (mean d c.handle).function _ _ (λ _. (s, f)) (λ _. entered_holds q c 0 s f)
 
       at : barred p.uses n ≡ false → (o : Option ℕ) → find d n ≡ o → Good (found o d p t x n)
       at b None e = passed_holds p t x w
       at b (Some h) e =
           let v = finds d n h e in
-          let f : Free d p.uses (length p.uses) h n = record { bears = record { known = v.0; named = v.1 }; free = unbarred p.uses n b; force = inl (found_has d.table 0 n h e) } in
-          by_test (λ (q : Proc). Good (cond (mean d h).function (None, phased q (Met (record { name = n; handle = h; location = x.location })), t) ((entered q n h 0).0, (entered q n h 0).1, t)))
-          (expanding p) p (lined p x.location.line) (λ _. go h p w.0 f) (λ _. go h (lined p x.location.line) w.0 f)
+          let c : Callee = record { name = n; handle = h; location = x.location } in
+          let f : FreeOf d p.uses c = record { bears = record { known = v.0; named = v.1 }; free = unbarred p.uses n b; force = inl (found_has d.table 0 n h e) } in
+          by_test (λ (q : Proc). Good (calling d q t c)) (expanding p) p (lined p x.location.line) (λ _. go c p w.0 f) (λ _. go c (lined p x.location.line) w.0 f)
 
   descended_holds : (p : Proc) (t : Tank) (c : Call) (i : ℕ) → Holds d p → FreeOf d p.uses c.callee → Good (descended p t c i)
   descended_holds p t c i w f =
@@ -84,7 +84,7 @@ module _ (d : Defs) where
           let c = (lowest p.below).call in
           by_test Good (ltb ((lowest p.below).next + 1) c.count) _ _
           (λ _. descended_holds q (shifted t p.level.start) c ((lowest p.below).next + 1) (s, tt) f)
-          (λ _. entered_holds q c.callee.name c.callee.handle c.count s f)
+          (λ _. entered_holds q c.callee c.count s f)
 
   holding_holds : (p : Proc) (t : Tank) (q : Callee) (a : Answer) → Holds d p → Good (holding p t q a)
   holding_holds p t q a w = passed_holds (phased p (Held a)) t (named q) (w.0, tt)

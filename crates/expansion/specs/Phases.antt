@@ -33,10 +33,10 @@ use Rattle.expansion.specs.Processor.{Proc, phased, used, fed, lined, argued, An
 -- ----- a move: what is met -----
 
 abbrev pub read_on : DefineInvocation → Option Span → DefineInvocation
-read_on u o = record { name = u.name; handle = u.handle; at = u.at; reading = o }
+read_on u o = record u { reading = o }
 
 abbrev pub body_on : DefineInvocation → DefineInvocation
-body_on u = record { name = u.name; handle = u.handle; at = u.at + 1; reading = u.reading }
+body_on u = record u { at = u.at + 1 }
 
 abbrev pub topped : List DefineInvocation → DefineInvocation → List DefineInvocation
 topped us u = slice_set us (length us - 1) u
@@ -80,9 +80,9 @@ abbrev pub quiet : List Pending → Option Answer
 quiet bs = cond (length bs == 0) (Some (Err Continue)) None
 
 -- the macro goes on the stack, with the first k arguments of the level's call
-abbrev pub entered : Proc → ℕ → ℕ → ℕ → Option Answer × Proc
-entered p n h k =
-    (quiet p.below, record p { phase = Plain; uses = p.uses ++ record { name = n; handle = h; at = 0; reading = None } ∷ []; spans = copied p.spans (slot_of_call p.below) (length p.uses) k })
+abbrev pub entered : Proc → Callee → ℕ → Option Answer × Proc
+entered p w k =
+    (quiet p.below, record p { phase = Plain; uses = p.uses ++ record { name = w.name; handle = w.handle; at = 0; reading = None } ∷ []; spans = copied p.spans (slot_of_call p.below) (length p.uses) k })
 
 -- a token passes: out of the processor, or into the argument that this level expands
 abbrev pub passed : Proc → Tank → Token → Out
@@ -98,12 +98,14 @@ barred (u ∷ us) n = cond (u.name == n) true (barred us n)
 abbrev pub starting : Proc → ℕ → Proc
 starting p n = cond (expanding p) p (lined p n)
 
+-- a call may follow a function-like name; any other macro goes on the stack
+abbrev pub calling : Defs → Proc → Tank → Callee → Out
+calling d p t w = cond (mean d w.handle).function (None, phased p (Met w), t) (let e = entered p w 0 in (e.0, e.1, t))
+
 abbrev pub found : Option ℕ → Defs → Proc → Tank → Token → ℕ → Out
 found None d p t x n = passed p t x
 found (Some h) d p t x n =
-    let q = starting p x.location.line in
-    cond (mean d h).function (None, phased q (Met (record { name = n; handle = h; location = x.location })), t)
-    (let e = entered q n h 0 in (e.0, e.1, t))
+    calling d (starting p x.location.line) t (record { name = n; handle = h; location = x.location })
 
 -- a name is met
 abbrev pub begun : Defs → Proc → Tank → Token → ℕ → Out
@@ -113,11 +115,11 @@ abbrev pub opened : Callee → Location → ℕ → Call
 opened w l k = record { callee = w; paren = l; last = l; nesting = 0; from = k; count = 0 }
 
 abbrev pub reached : Call → ℕ → Location → Call
-reached c k l = record { callee = c.callee; paren = c.paren; last = l; nesting = k; from = c.from; count = c.count }
+reached c k l = record c { last = l; nesting = k }
 
 -- the current argument is whole: it ends at k
 abbrev pub split : Call → Location → ℕ → Call
-split c l k = record { callee = c.callee; paren = c.paren; last = l; nesting = c.nesting; from = k; count = cond (nat_lt c.count 33) (c.count + 1) 33 }
+split c l k = record c { last = l; from = k; count = cond (nat_lt c.count 33) (c.count + 1) 33 }
 
 abbrev pub parted : Proc → Call → ℕ → Proc
 parted p c k = argued p (with_arg p.spans (slot_of_call p.below) c.count (record { from = c.from; to = k }))
@@ -170,7 +172,7 @@ filled p i s = argued p (with_arg p.spans (slot_of_call p.below) i s)
 abbrev pub returned : Proc → Tank → ℕ → Call → Out
 returned p t i c =
     cond (nat_lt (i + 1) c.count) (descended p t c (i + 1))
-    (let e = entered p c.callee.name c.callee.handle c.count in (e.0, e.1, t))
+    (let e = entered p c.callee c.count in (e.0, e.1, t))
 
 -- the input of this level is used up
 abbrev pub finished : Proc → Tank → Out

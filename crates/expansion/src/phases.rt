@@ -121,8 +121,8 @@ impl MacroProcessor {
     // The macro goes on the stack, with the first `count` arguments of this level's call.
     fn enter(&mut self, callee: Callee, count: usize) -> Option<Step<Token>>
         requires { vec_len self.old.invocations < 513 }
-        ensures value { result ≡ (entered (view self.old) callee.name callee.handle count).0 }
-        ensures after { view self.new ≡ (entered (view self.old) callee.name callee.handle count).1 }
+        ensures value { result ≡ (entered (view self.old) callee count).0 }
+        ensures after { view self.new ≡ (entered (view self.old) callee count).1 }
     {
         let slot = self.call_slot();
         let place = self.invocations.len();
