@@ -136,7 +136,11 @@ impl<S: Source> DirectiveProcessor<S> {
         ensures stores { Spends (tank meter.old) (tank meter.new) }
         ensures segments { OnOk result ((self.new.blocks.stack.items ≡ if_on self.old.blocks.skipping self.new.blocks.skipping location self.old.blocks.stack.items) × ((if self.old.blocks.skipping then self.new.blocks.skipping else true) ≡ true)) }
     {
-        self.parse_if_like_directive(location, meter, |this, meter| this.condition(location, meter))
+        self.parse_if_like_directive(
+            location,
+            meter,
+            |this, meter| this.condition(location, meter),
+        )
     }
 
     pub fn parse_ifdef_directive(&mut self, location: Location, meter: &mut Meter) -> Step<()>
@@ -167,10 +171,20 @@ impl<S: Source> DirectiveProcessor<S> {
     {
         self.blocks.skipping = true;
         let Some(block) = self.blocks.top() else {
-            return Err(Fault::new(PreprocessorError::ElifOutsideOfBlock, directive_location, Layer::Directives).into());
+            return Err(Fault::new(
+                PreprocessorError::ElifOutsideOfBlock,
+                directive_location,
+                Layer::Directives,
+            )
+            .into());
         };
         if block.had_else {
-            return Err(Fault::new(PreprocessorError::ElifAfterElse, directive_location, Layer::Directives).into());
+            return Err(Fault::new(
+                PreprocessorError::ElifAfterElse,
+                directive_location,
+                Layer::Directives,
+            )
+            .into());
         }
         if block.outer_skipped || block.had_valid_segment {
             return self.reader.consume_until_newline();
@@ -193,10 +207,20 @@ impl<S: Source> DirectiveProcessor<S> {
     {
         self.reader.expect_newline(directive_location)?;
         let Some(block) = self.blocks.top() else {
-            return Err(Fault::new(PreprocessorError::ElseOutsideOfBlock, directive_location, Layer::Directives).into());
+            return Err(Fault::new(
+                PreprocessorError::ElseOutsideOfBlock,
+                directive_location,
+                Layer::Directives,
+            )
+            .into());
         };
         if block.had_else {
-            return Err(Fault::new(PreprocessorError::MoreThanOneElse, directive_location, Layer::Directives).into());
+            return Err(Fault::new(
+                PreprocessorError::MoreThanOneElse,
+                directive_location,
+                Layer::Directives,
+            )
+            .into());
         }
         let skipping = block.outer_skipped || block.had_valid_segment;
         self.blocks.change(
@@ -215,7 +239,12 @@ impl<S: Source> DirectiveProcessor<S> {
         ensures segments { OnOk result ((self.new.blocks.stack.items ≡ (end_on (latest self.old.blocks.stack.items) (self.old.blocks.stack.items)).0) × (self.new.blocks.skipping ≡ (end_on (latest self.old.blocks.stack.items) (self.old.blocks.stack.items)).1)) }
     {
         let Some(block) = self.blocks.close() else {
-            return Err(Fault::new(PreprocessorError::EndifOutsideOfBlock, directive_location, Layer::Directives).into());
+            return Err(Fault::new(
+                PreprocessorError::EndifOutsideOfBlock,
+                directive_location,
+                Layer::Directives,
+            )
+            .into());
         };
         self.blocks.skipping = block.outer_skipped;
         if block.outer_skipped {

@@ -12,7 +12,9 @@ use tokens::fault::{Fault, Layer, PreprocessorError, Step, StepExit};
 use tokens::lexer::LexerTokenValue;
 use tokens::location::Location;
 use tokens::token::Token;
-use tokens::words::{DEFINE, ELIF, ELSE, ENDIF, ERROR, EXTENSION, IF, IFDEF, IFNDEF, LINE, PRAGMA, UNDEF, VERSION};
+use tokens::words::{
+    DEFINE, ELIF, ELSE, ENDIF, ERROR, EXTENSION, IF, IFDEF, IFNDEF, LINE, PRAGMA, UNDEF, VERSION,
+};
 
 // A fault within `#if`, `#elif` and `#line` carries the word's place too.
 fn within(step: Step<Token>, word: u32, location: Location) -> Step<Token> {

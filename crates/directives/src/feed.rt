@@ -95,7 +95,8 @@ impl<S: Source> Feed for DirectiveProcessor<S> {
                     PreprocessorError::UnfinishedBlock,
                     block.start_location,
                     Layer::Directives,
-                ).into()),
+                )
+                .into()),
                 None => Err(StepExit::Finished),
             },
             step => step,
@@ -108,7 +109,9 @@ impl<S: Source> Feed for DirectiveProcessor<S> {
 
     fn apply_line_offset(&self, line: u32, location: Location) -> Result<u32, Fault> {
         let overflow = Fault::new(PreprocessorError::LineOverflow, location, Layer::Directives);
-        let shifted = i64::from(line).checked_add(self.line_offset).ok_or(overflow)?;
+        let shifted = i64::from(line)
+            .checked_add(self.line_offset)
+            .ok_or(overflow)?;
         u32::try_from(shifted).map_err(|_| overflow)
     }
 }

@@ -42,7 +42,7 @@ impl<S: Source> Preprocessor<S> {
         ensures moves { (spent_of self.old).moves ≤ (spent_of self.new).moves }
         ensures fault { self.new.fault ≡ self.old.fault }
     {
-        if self.processor.invocations.len() == 0 {
+        if self.processor.invocations.is_empty() {
             self.meter.clear();
         }
         self.processor.step(&mut self.directives, &mut self.meter)
