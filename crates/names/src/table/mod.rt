@@ -7,7 +7,8 @@ use tokens::token::Part;
 pub mod methods;
 
 // The names in the order in which they came: name number i is the bytes at spans[i].
-// No two are alike, and their bytes follow one another without a gap. All memory is reserved when the table is made.
+// No two are alike, and their bytes follow one another without a gap.
+// All memory is reserved when the table is made, so the names lie in one store and are no strings of their own.
 #[derive(Drop)]
 pub struct Names {
     bytes: Vec<u8>,
