@@ -1,6 +1,7 @@
 // Entering names, finding them, reading them back, and forgetting the latest.
 ghost use Rattle.std.specs.Prelude.{◌≡◌, ◌+◌, ◌<◌, ◌≤◌, [], ◌∷◌, ◌++◌, map, fold, length, take, None, MatchOption, MatchResult, slice_index_or};
-ghost use Rattle.names.specs.Spans.{spanned, joint, Distinct};
+ghost use Rattle.std.specs.List.{concat};
+ghost use Rattle.names.specs.Spans.{spanned, Distinct};
 ghost use Rattle.names.specs.Interning.{seek, answer, after};
 ghost use Rattle.names.specs.Table.{fixed};
 
@@ -46,7 +47,7 @@ impl Names {
 
     // How many bytes all the names have together.
     pub fn size(&self) -> usize
-        ensures value { result ≡ length (joint self.now) }
+        ensures value { result ≡ length (concat self.now) }
         ensures few { result ≤ 16384 }
     {
         self.bytes.len()
@@ -75,7 +76,7 @@ impl Names {
     fn enter(&mut self, bytes: &[u8])
         requires fresh { seek 0 self.old bytes.now ≡ None }
         requires few { length self.old < 1024 }
-        requires short { length (joint self.old) + length bytes.now ≤ 16384 }
+        requires short { length (concat self.old) + length bytes.now ≤ 16384 }
         ensures { self.new ≡ self.old ++ bytes.now ∷ [] }
     {
         let start = self.bytes.len();

@@ -1,7 +1,8 @@
 -- The first names alone keep the table in order.
 use Rattle.std.proofs.Common.{◌≡◌, ℕ, ◌<◌, List, length, get_or, take, vec_items, sym, ap, ◌∙◌, subst, arith}
+use Rattle.std.specs.List.{concat}
 use Rattle.tokens.specs.declared.token.Part.{Part}
-use Rattle.names.specs.Spans.{listed, joint, Within, Placed, Distinct}
+use Rattle.names.specs.Spans.{listed, Within, Placed, Distinct}
 use Rattle.names.proofs.Cuts.{within_cut, listed_cut, joined_cut, placed_cut, distinct_cut}
 use Rattle.names.proofs.table.Names.truncate.Goals as goal
 use Rattle.names.proofs.table.Names.truncate.Goals.{After-truncate-in-Some}
@@ -32,7 +33,7 @@ invariant_of-self c =
       roomy = omega (arith, c.truncate.ensures.capacity, c.self.invariant.roomy);
       wide = omega (arith, c.truncate-in-Some.ensures.capacity, c.self.invariant.wide);
       within = subst (λ (x : List ℕ). Within x (vec_items c.truncate-in-Some.new.self)) (sym p) (subst (λ (x : List Part). Within (take (get_or (vec_items c.self.inside.spans) c.args.count c.in-Some.first.now).start (vec_items c.self.inside.bytes)) x) (sym q) (within_cut _ _ _ _ c.self.invariant.within c.self.invariant.placed (at c)));
-      joined = ap joint l ∙ joined_cut _ _ _ _ c.self.invariant.within c.self.invariant.placed (at c) c.self.invariant.joined ∙ sym p;
+      joined = ap concat l ∙ joined_cut _ _ _ _ c.self.invariant.within c.self.invariant.placed (at c) c.self.invariant.joined ∙ sym p;
       placed = subst (λ (x : List (List ℕ)). Placed x (vec_items c.truncate-in-Some.new.self)) (sym l) (subst (λ (x : List Part). Placed (take c.args.count (listed (vec_items c.self.inside.bytes) (vec_items c.self.inside.spans))) x) (sym q) (placed_cut _ _ _ c.in-Some.first.now c.self.invariant.within c.self.invariant.placed (at c)));
       distinct = subst Distinct (sym l) (distinct_cut _ c.args.count c.self.invariant.distinct);
     }
