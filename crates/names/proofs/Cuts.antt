@@ -1,31 +1,28 @@
 -- The first names alone, and one name more, still lie one after another.
-use Rattle.std.proofs.Common.{◌≡◌, ℕ, ◌+◌, ◌<◌, ◌≤◌, min, List, [], ◌∷◌, ◌++◌, length, get_or, take, drop, sym, refl, ap, ◌∙◌, subst, ⊎_elim, arith}
-use Rattle.std.proofs.lemmas.List.{append_assoc, get_or_append_left, get_or_push, length_push, length-append, length-drop, length-take, length-take-le, length-map, get_or-map, get_or-take, take_more, take_all, take_at, take-take, take-map, take-append-le, take-append-drop}
+use Rattle.std.proofs.Common.{◌≡◌, ℕ, ◌+◌, ◌<◌, ◌≤◌, min, List, [], ◌∷◌, ◌++◌, length, get_or, take, drop, sym, ap, ◌∙◌, subst, ⊎_elim, arith}
+use Rattle.std.proofs.lemmas.List.{get_or_append_left, get_or_push, length_push, length-append, length-drop, length-take, length-take-le, length-map, get_or-map, get_or-take, take_more, take_all, take_at, take-take, take-map, take-append-le, take-append-drop}
 use Rattle.std.proofs.lemmas.Bool.{cases_lt}
+use Rattle.std.specs.List.{concat}
 use Rattle.tokens.specs.declared.token.Part.{Part}
-use Rattle.names.specs.Spans.{spanned, listed, joint, Within, Placed, Distinct}
-use Rattle.names.proofs.Tables.{joint_push, listed_stable}
+use Rattle.names.specs.Spans.{spanned, listed, Within, Placed, Distinct}
+use Rattle.names.proofs.Tables.{concat_append, concat_push, listed_stable}
 
-joint_append : (xs ys : List (List ℕ)) → joint (xs ++ ys) ≡ joint xs ++ joint ys
-joint_append [] ys = refl
-joint_append (x ∷ xs) ys = ap (λ l. x ++ l) (joint_append xs ys) ∙ sym (append_assoc x (joint xs) (joint ys))
+concat_more : (ns : List (List ℕ)) (k : ℕ) → k < length ns → length (concat (take (k + 1) ns)) ≡ length (concat (take k ns)) + length (get_or ns k [])
+concat_more ns k h = ap (λ l. length (concat l)) (take_more ns k [] h) ∙ ap length (concat_push (take k ns) (get_or ns k [])) ∙ length-append (concat (take k ns)) (get_or ns k [])
 
-joint_more : (ns : List (List ℕ)) (k : ℕ) → k < length ns → length (joint (take (k + 1) ns)) ≡ length (joint (take k ns)) + length (get_or ns k [])
-joint_more ns k h = ap (λ l. length (joint l)) (take_more ns k [] h) ∙ ap length (joint_push (take k ns) (get_or ns k [])) ∙ length-append (joint (take k ns)) (get_or ns k [])
-
-joint_le : (ns : List (List ℕ)) (j k : ℕ) → j ≤ k → length (joint (take j ns)) ≤ length (joint (take k ns))
-joint_le ns j k h =
-    let e : joint (take k ns) ≡ joint (take j ns) ++ joint (drop j (take k ns)) = ap joint (sym (take-append-drop j (take k ns))) ∙ joint_append (take j (take k ns)) (drop j (take k ns)) ∙ ap (λ l. joint l ++ joint (drop j (take k ns))) (take-take j k ns h) in
-    let n : length (joint (take k ns)) ≡ length (joint (take j ns)) + length (joint (drop j (take k ns))) = ap length e ∙ length-append (joint (take j ns)) (joint (drop j (take k ns))) in
+concat_le : (ns : List (List ℕ)) (j k : ℕ) → j ≤ k → length (concat (take j ns)) ≤ length (concat (take k ns))
+concat_le ns j k h =
+    let e : concat (take k ns) ≡ concat (take j ns) ++ concat (drop j (take k ns)) = ap concat (sym (take-append-drop j (take k ns))) ∙ concat_append (take j (take k ns)) (drop j (take k ns)) ∙ ap (λ l. concat l ++ concat (drop j (take k ns))) (take-take j k ns h) in
+    let n : length (concat (take k ns)) ≡ length (concat (take j ns)) + length (concat (drop j (take k ns))) = ap length e ∙ length-append (concat (take j ns)) (concat (drop j (take k ns))) in
     omega arith
 
-pub placed_push : (ns : List (List ℕ)) (b : List ℕ) (ss : List Part) (s : Part) → length ns ≡ length ss → Placed ns ss → s.start ≡ length (joint ns) → Placed (ns ++ b ∷ []) (ss ++ s ∷ [])
+pub placed_push : (ns : List (List ℕ)) (b : List ℕ) (ss : List Part) (s : Part) → length ns ≡ length ss → Placed ns ss → s.start ≡ length (concat ns) → Placed (ns ++ b ∷ []) (ss ++ s ∷ [])
 placed_push ns b ss s e p f k d lt =
     let m : length (ss ++ s ∷ []) ≡ length ss + 1 = length_push ss s in
     let front : take k (ns ++ b ∷ []) ≡ take k ns = take-append-le k ns (b ∷ []) (omega arith) in
     ⊎_elim
-    (λ old. ap (λ (x : Part). x.start) (get_or_append_left ss (s ∷ []) d k old) ∙ p k d old ∙ ap (λ l. length (joint l)) (sym front))
-    (λ new. let at : length ss ≡ k = omega arith in ap (λ (x : Part). x.start) (get_or_push ss s d k at) ∙ f ∙ ap (λ l. length (joint l)) (sym (front ∙ take_all k ns (omega arith))))
+    (λ old. ap (λ (x : Part). x.start) (get_or_append_left ss (s ∷ []) d k old) ∙ p k d old ∙ ap (λ l. length (concat l)) (sym front))
+    (λ new. let at : length ss ≡ k = omega arith in ap (λ (x : Part). x.start) (get_or_push ss s d k at) ∙ f ∙ ap (λ l. length (concat l)) (sym (front ∙ take_all k ns (omega arith))))
     (cases_lt k (length ss))
 
 long : (bs : List ℕ) (ss : List Part) (k : ℕ) (d : Part) → Within bs ss → k < length ss → length (get_or (listed bs ss) k []) ≡ (get_or ss k d).len
@@ -43,8 +40,8 @@ before bs ss k n d w p h l =
     let a = p k d (omega arith) in
     let b = p n d l in
     let c = long bs ss k d w (omega arith) in
-    let m = joint_more ns k (omega arith) in
-    let u = joint_le ns (k + 1) n (omega arith) in
+    let m = concat_more ns k (omega arith) in
+    let u = concat_le ns (k + 1) n (omega arith) in
     omega arith
 
 module _ (bs : List ℕ) (ss : List Part) (n : ℕ) (d : Part) (w : Within bs ss) (p : Placed (listed bs ss) ss) (l : n < length ss) where
@@ -64,17 +61,17 @@ module _ (bs : List ℕ) (ss : List Part) (n : ℕ) (d : Part) (w : Within bs ss
       let st = (get_or ss n d).start in
       sym (listed_stable (take st bs) (drop st bs) (take n ss) within_cut) ∙ ap (λ x. listed x (take n ss)) (take-append-drop st bs) ∙ sym (take-map (spanned bs) n ss)
 
-  pub joined_cut : joint (listed bs ss) ≡ bs → joint (take n (listed bs ss)) ≡ take (get_or ss n d).start bs
+  pub joined_cut : concat (listed bs ss) ≡ bs → concat (take n (listed bs ss)) ≡ take (get_or ss n d).start bs
   joined_cut j =
       let ns = listed bs ss in
       let st = (get_or ss n d).start in
-      let e : joint ns ≡ joint (take n ns) ++ joint (drop n ns) = ap joint (sym (take-append-drop n ns)) ∙ joint_append (take n ns) (drop n ns) in
-      sym (ap (take st) (sym j ∙ e) ∙ take_at (joint (take n ns)) (joint (drop n ns)) st (sym (p n d l)))
+      let e : concat ns ≡ concat (take n ns) ++ concat (drop n ns) = ap concat (sym (take-append-drop n ns)) ∙ concat_append (take n ns) (drop n ns) in
+      sym (ap (take st) (sym j ∙ e) ∙ take_at (concat (take n ns)) (concat (drop n ns)) st (sym (p n d l)))
 
   pub placed_cut : Placed (take n (listed bs ss)) (take n ss)
   placed_cut k e h =
       let m : length (take n ss) ≡ n = length-take-le n ss (omega arith) in
-      ap (λ (x : Part). x.start) (get_or-take n ss k e (omega arith)) ∙ p k e (omega arith) ∙ ap (λ x. length (joint x)) (sym (take-take k n (listed bs ss) (omega arith)))
+      ap (λ (x : Part). x.start) (get_or-take n ss k e (omega arith)) ∙ p k e (omega arith) ∙ ap (λ x. length (concat x)) (sym (take-take k n (listed bs ss) (omega arith)))
 
 pub distinct_cut : (ns : List (List ℕ)) (n : ℕ) → Distinct ns → Distinct (take n ns)
 distinct_cut ns n d i j h =

@@ -1,7 +1,6 @@
 -- The lemmas behind the table of names.
 pub mod Tables
 pub mod Cuts
-pub mod Sizes
 pub mod Numbers
 pub mod Growth
 pub mod Words

@@ -1,13 +1,14 @@
 -- What the table's proofs share.
 use Rattle.std.proofs.Common.{◌≡◌, ℕ, zero, suc, ◌+◌, ◌<◌, ◌≤◌, Bool, true, false, cond, List, [], ◌∷◌, ◌++◌, length, get_or, take, drop, Some, None, Option, sym, refl, ap, ◌∙◌, subst, ⊎_elim, ◌≢◌, arith, rules}
 use Rattle.std.specs.Str.{bytes_eq}
-use Rattle.std.specs.List.{AllWithin, HoldsAt}
+use Rattle.std.proofs.lemmas.List.Concat.{concat_is, flat_map-append}
+use Rattle.std.specs.List.{concat, AllWithin, HoldsAt}
 use Rattle.std.specs.Option.{MatchOption}
-use Rattle.std.proofs.lemmas.List.{append-nil, append_assoc, get_or_append_left, get_or_push, length_push, length-append, length-drop, length-map, get_or-map, at_drop_more, at_drop_all, map-append, drop-append-le, take-append-le, drop_at, take_all}
+use Rattle.std.proofs.lemmas.List.{append-nil, get_or_append_left, get_or_push, length_push, length-append, length-drop, length-map, get_or-map, at_drop_more, at_drop_all, map-append, drop-append-le, take-append-le, drop_at, take_all}
 use Rattle.std.proofs.lemmas.Bool.{cases_lt}
 use Rattle.std.proofs.lemmas.Slice.Eq.{bytes_eq-Decides}
 use Rattle.tokens.specs.declared.token.Part.{Part}
-use Rattle.names.specs.Spans.{spanned, listed, Within, joint, Distinct}
+use Rattle.names.specs.Spans.{spanned, listed, Within, Distinct}
 use Rattle.names.specs.Interning.{seek}
 
 -- a span that was read from the list ends within the bytes
@@ -110,9 +111,11 @@ listed_push bs b ss s w e f =
     let old = listed_stable bs b ss w in
     map-append (spanned (bs ++ b)) ss (s ∷ []) ∙ (λ i. old i ++ new i ∷ [])
 
-pub joint_push : (ns : List (List ℕ)) (b : List ℕ) → joint (ns ++ b ∷ []) ≡ joint ns ++ b
-joint_push [] b = append-nil b
-joint_push (n ∷ ns) b = ap (λ l. n ++ l) (joint_push ns b) ∙ sym (append_assoc n (joint ns) b)
+pub concat_append : (xs ys : List (List ℕ)) → concat (xs ++ ys) ≡ concat xs ++ concat ys
+concat_append xs ys = simp concat_is (flat_map-append (λ x. x) xs ys)
+
+pub concat_push : (ns : List (List ℕ)) (b : List ℕ) → concat (ns ++ b ∷ []) ≡ concat ns ++ b
+concat_push ns b = concat_append ns (b ∷ []) ∙ ap (λ l. concat ns ++ l) (append-nil b)
 
 pub distinct_push : (ns : List (List ℕ)) (b : List ℕ) → Distinct ns → Absent ns b → Distinct (ns ++ b ∷ [])
 distinct_push ns b d a i j h =

@@ -5,9 +5,10 @@
 -- SameNumber: two names, one entered after the other, get the same number exactly when all their bytes agree
 use Rattle.std.specs.Prelude.{◌≡◌, ℕ, ◌+◌, Bool, false, cond, List, [], ◌∷◌, ◌++◌, length, Some, None, Ok, Err, Option, Result, ◌==◌, nat_le, nat_lt}
 use Rattle.std.specs.Str.{bytes_eq}
+use Rattle.std.specs.List.{concat}
 use Rattle.tokens.specs.declared.fault.Refusal.{Refusal}
 use Rattle.tokens.specs.declared.fault.Refusal.TheVariants.{NameLength, NamesFull}
-use Rattle.names.specs.Spans.{joint, Distinct}
+use Rattle.names.specs.Spans.{Distinct}
 
 abbrev pub seek : ℕ → List (List ℕ) → List ℕ → Option ℕ
 seek i [] b = None
@@ -17,7 +18,7 @@ abbrev pub fits : List ℕ → Bool
 fits b = cond (length b == 0) false (nat_le (length b) 1024)
 
 abbrev pub room : List (List ℕ) → List ℕ → Bool
-room ns b = cond (nat_lt (length ns) 1024) (nat_le (length (joint ns) + length b) 16384) false
+room ns b = cond (nat_lt (length ns) 1024) (nat_le (length (concat ns) + length b) 16384) false
 
 abbrev pub entered : Option ℕ → List (List ℕ) → List ℕ → Result ℕ Refusal
 entered (Some i) ns b = Ok i

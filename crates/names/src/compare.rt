@@ -8,6 +8,7 @@ pub fn same_name(a: &[u8], b: &[u8]) -> bool
     if a.len() != b.len() {
         return false;
     }
+    // a rule of the project: a loop over every byte, and no `==` of slices
     for (i, x) in a.iter().enumerate() {
         if *x != b[i] {
             return false;

@@ -1,8 +1,9 @@
 // Entering names, finding them, reading them back, and forgetting the latest.
 ghost use Rattle.std.specs.Prelude.{◌≡◌, ◌+◌, ◌<◌, ◌≤◌, [], ◌∷◌, ◌++◌, map, fold, length, take, None, MatchOption, MatchResult, slice_index_or};
-ghost use Rattle.names.specs.Spans.{spanned, joint};
+ghost use Rattle.std.specs.List.{concat};
+ghost use Rattle.names.specs.Spans.{spanned, Distinct};
 ghost use Rattle.names.specs.Interning.{seek, answer, after};
-ghost use Rattle.names.specs.Table.{names, fixed};
+ghost use Rattle.names.specs.Table.{fixed};
 
 use super::Names;
 use crate::compare::same_name;
@@ -35,53 +36,48 @@ const FIXED: [&[u8]; 15] = [
 ];
 
 impl Names {
-    // How many names there are.
+    // How many names there are, no two of which are alike.
     pub fn count(&self) -> usize
-        ensures { result ≡ length (names self.now) }
+        ensures value { result ≡ length self.now }
+        ensures few { result ≤ 1024 }
+        ensures distinct { Distinct self.now }
     {
         self.spans.len()
     }
 
     // How many bytes all the names have together.
     pub fn size(&self) -> usize
-        ensures { result ≡ length (joint (names self.now)) }
+        ensures value { result ≡ length (concat self.now) }
+        ensures few { result ≤ 16384 }
     {
         self.bytes.len()
     }
 
-    // The bytes of a part of all the bytes.
-    fn spanned(&self, part: Part) -> &[u8]
-        requires { part.start + part.len ≤ length self.now.bytes.items }
-        ensures { result.now ≡ spanned self.now.bytes.items part }
-    {
-        &self.bytes[part.start..][..part.len]
-    }
-
     // The bytes of a name by its number, none for an unknown number.
     pub fn bytes_of(&self, n: u32) -> Option<&[u8]>
-        ensures { MatchOption result (length (names self.now) ≤ n) (λ b. (n < length (names self.now)) × (b.now ≡ slice_index_or (names self.now) n [])) }
+        ensures { MatchOption result (length self.now ≤ n) (λ b. (n < length self.now) × (b.now ≡ slice_index_or self.now n [])) }
     {
         let part = self.spans.get(n as usize)?;
-        Some(self.spanned(*part))
+        Some(spanned(&self.bytes, *part))
     }
 
     // The number of the name with these bytes.
     pub fn find(&self, bytes: &[u8]) -> Option<u32>
-        ensures { result ≡ seek 0 (names self.now) bytes.now }
+        ensures { result ≡ seek 0 self.now bytes.now }
     {
         let place = self
             .spans
             .iter()
-            .position(|part| same_name(self.spanned(*part), bytes))?;
+            .position(|part| same_name(spanned(&self.bytes, *part), bytes))?;
         Some(place as u32)
     }
 
     // One more name at the end.
     fn enter(&mut self, bytes: &[u8])
-        requires fresh { seek 0 (names self.old) bytes.now ≡ None }
-        requires few { length (names self.old) < 1024 }
-        requires short { length (joint (names self.old)) + length bytes.now ≤ 16384 }
-        ensures { names self.new ≡ names self.old ++ bytes.now ∷ [] }
+        requires fresh { seek 0 self.old bytes.now ≡ None }
+        requires few { length self.old < 1024 }
+        requires short { length (concat self.old) + length bytes.now ≤ 16384 }
+        ensures { self.new ≡ self.old ++ bytes.now ∷ [] }
     {
         let start = self.bytes.len();
         let len = bytes.len();
@@ -91,8 +87,8 @@ impl Names {
 
     // The number of the name with these bytes, entered now if it is new.
     pub fn intern(&mut self, bytes: &[u8]) -> Result<u32, Refusal>
-        ensures value { result ≡ answer (names self.old) bytes.now }
-        ensures after { names self.new ≡ after (names self.old) bytes.now }
+        ensures value { result ≡ answer self.old bytes.now }
+        ensures after { self.new ≡ after self.old bytes.now }
     {
         if bytes.is_empty() || bytes.len() > NAME_LEN {
             return Err(Refusal::NameLength);
@@ -110,7 +106,7 @@ impl Names {
 
     // Forgets all names but the first `count`.
     pub fn truncate(&mut self, count: usize)
-        ensures { names self.new ≡ take count (names self.old) }
+        ensures { self.new ≡ take count self.old }
     {
         if let Some(first) = self.spans.get(count) {
             let size = first.start;
@@ -121,7 +117,7 @@ impl Names {
 
     // An empty table with room for all that it may hold.
     fn empty(heap: Global) -> Result<Names, Refusal>
-        ensures { MatchResult result (λ t. names t ≡ []) (λ e. e ≡ Refusal.Memory) }
+        ensures { MatchResult result (λ t. t ≡ []) (λ e. e ≡ Refusal.Memory) }
     {
         let bytes = Vec::with_capacity(heap, ALL_BYTES)?;
         let spans = Vec::with_capacity(heap, ALL_NAMES)?;
@@ -130,7 +126,7 @@ impl Names {
 
     // A fresh table holds the fixed words.
     pub fn new(heap: Global) -> Result<Names, Refusal>
-        ensures { MatchResult result (λ t. names t ≡ fixed) (λ e. e ≡ Refusal.Memory) }
+        ensures { MatchResult result (λ t. t ≡ fixed) (λ e. e ≡ Refusal.Memory) }
     {
         let mut t = Names::empty(heap)?;
         t.enter_fixed();
@@ -138,18 +134,26 @@ impl Names {
     }
 
     fn enter_fixed(&mut self)
-        requires { names self.old ≡ [] }
-        ensures { names self.new ≡ fixed }
+        requires { self.old ≡ [] }
+        ensures { self.new ≡ fixed }
     {
         self.enter_all(&FIXED);
     }
 
     // Names one after another, without those that are refused.
     fn enter_all(&mut self, words: &[&[u8]])
-        ensures { names self.new ≡ fold after (names self.old) (map (λ w. w.now) words.now) }
+        ensures { self.new ≡ fold after self.old (map (λ w. w.now) words.now) }
     {
         for word in words {
             let _ = self.intern(word);
         }
     }
+}
+
+// The bytes of a part of all the bytes.
+fn spanned(bytes: &[u8], part: Part) -> &[u8]
+    requires { part.start + part.len ≤ length bytes.now }
+    ensures { result.now ≡ spanned bytes.now part }
+{
+    &bytes[part.start..][..part.len]
 }

@@ -1,6 +1,5 @@
 // Entering a file's names into the table of names.
 ghost use Rattle.std.specs.Prelude.{◌≡◌, ◌≤◌, true, length, sum, is_ok, if◌then◌else◌};
-ghost use Rattle.names.specs.Table.{names};
 ghost use Rattle.sources.specs.Contents.{lens_of, cut};
 ghost use Rattle.sources.specs.Entering.{numbers_of, table_after, Grown, Numbered};
 
@@ -16,9 +15,9 @@ fn number_names(
     text: &[u8],
 ) -> Result<Vec<u32>, Refusal>
     requires { sum (lens_of lengths.now) ≤ length text.now }
-    ensures value { Numbered result (numbers_of (names table.old) (cut (lens_of lengths.now) text.now)) }
-    ensures entered { is_ok result ≡ true → names table.new ≡ table_after (names table.old) (cut (lens_of lengths.now) text.now) }
-    ensures grows { Grown (names table.old) (names table.new) }
+    ensures value { Numbered result (numbers_of table.old (cut (lens_of lengths.now) text.now)) }
+    ensures entered { is_ok result ≡ true → table.new ≡ table_after table.old (cut (lens_of lengths.now) text.now) }
+    ensures grows { Grown table.old table.new }
 {
     let (pairs, _) = lengths.as_chunks::<2>();
     let mut numbers = Vec::new(heap);
@@ -40,8 +39,8 @@ pub(crate) fn enter_names(
     text: &[u8],
 ) -> Result<Vec<u32>, Refusal>
     requires { sum (lens_of lengths.now) ≤ length text.now }
-    ensures value { Numbered result (numbers_of (names table.old) (cut (lens_of lengths.now) text.now)) }
-    ensures entered { names table.new ≡ (if is_ok result then table_after (names table.old) (cut (lens_of lengths.now) text.now) else names table.old) }
+    ensures value { Numbered result (numbers_of table.old (cut (lens_of lengths.now) text.now)) }
+    ensures entered { table.new ≡ (if is_ok result then table_after table.old (cut (lens_of lengths.now) text.now) else table.old) }
 {
     let count = table.count();
     let numbers = number_names(heap, table, lengths, text);

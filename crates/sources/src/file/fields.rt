@@ -15,6 +15,7 @@ fn value_of(raw: Raw, names: u32) -> Option<LexerTokenValue>
     ensures { result ≡ value_of names raw }
 {
     let plain = raw.marks < 8 && raw.width == 0;
+    // an enum of kinds would want a second match, since these numbers are read here alone
     match raw.kind {
         0 if plain && raw.value < names as u64 => Some(LexerTokenValue::Ident(raw.value as u32)),
         1 if raw.marks < 16 => Some(LexerTokenValue::Integer(Integer {
@@ -22,12 +23,13 @@ fn value_of(raw: Raw, names: u32) -> Option<LexerTokenValue>
             signed: raw.marks >= 8,
             width: raw.width,
         })),
-        2 if raw.marks < 8 && raw.value < 0x1_0000_0000 => Some(LexerTokenValue::Float(Float {
-            bits: raw.value as u32,
+        2 if raw.marks < 8 => Some(LexerTokenValue::Float(Float {
+            bits: u32::try_from(raw.value).ok()?,
             width: raw.width,
         })),
-        3 if plain && raw.value < 45 => {
-            let punct = Punct::try_from(raw.value as u8).ok()?;
+        3 if plain => {
+            let number = u8::try_from(raw.value).ok()?;
+            let punct = Punct::try_from(number).ok()?;
             Some(LexerTokenValue::Punct(punct))
         }
         4 if plain && raw.value == 0 => Some(LexerTokenValue::Hash),

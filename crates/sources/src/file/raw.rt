@@ -1,5 +1,5 @@
 // The fields of one token of a token file, as they stand there.
-ghost use Rattle.std.specs.Prelude.{◌≡◌};
+ghost use Rattle.std.specs.Prelude.{◌≡◌, ◌+◌, ◌≤◌, take, drop};
 ghost use Rattle.sources.specs.Bytes.{raw_of};
 
 #[derive(Clone, Copy)]
@@ -18,40 +18,22 @@ impl From<[u8; 24]> for Raw {
     ghost from_gives = { λ bytes raw. raw ≡ raw_of bytes };
 
     fn from(bytes: [u8; 24]) -> Raw {
-        let [
-            kind,
-            marks,
-            w0,
-            w1,
-            v0,
-            v1,
-            v2,
-            v3,
-            v4,
-            v5,
-            v6,
-            v7,
-            s0,
-            s1,
-            s2,
-            s3,
-            e0,
-            e1,
-            e2,
-            e3,
-            l0,
-            l1,
-            l2,
-            l3,
-        ] = bytes;
         Raw {
-            kind,
-            marks,
-            width: u16::from_le_bytes([w0, w1]),
-            value: u64::from_le_bytes([v0, v1, v2, v3, v4, v5, v6, v7]),
-            start: u32::from_le_bytes([s0, s1, s2, s3]),
-            end: u32::from_le_bytes([e0, e1, e2, e3]),
-            line: u32::from_le_bytes([l0, l1, l2, l3]),
+            kind: bytes[0],
+            marks: bytes[1],
+            width: u16::from_le_bytes(bytes_at(&bytes, 2)),
+            value: u64::from_le_bytes(bytes_at(&bytes, 4)),
+            start: u32::from_le_bytes(bytes_at(&bytes, 12)),
+            end: u32::from_le_bytes(bytes_at(&bytes, 16)),
+            line: u32::from_le_bytes(bytes_at(&bytes, 20)),
         }
     }
+}
+
+// The N bytes from place `at` on.
+fn bytes_at<const N: usize>(bytes: &[u8; 24], at: usize) -> [u8; N]
+    requires { at + N ≤ 24 }
+    ensures { result ≡ take N (drop at bytes.now) }
+{
+    *bytes[at..].first_chunk().unwrap()
 }

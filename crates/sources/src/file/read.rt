@@ -1,6 +1,5 @@
 // Reading a token file, and delivering its tokens.
 ghost use Rattle.std.specs.Prelude.{◌≡◌, is_ok, if◌then◌else◌, slice_index};
-ghost use Rattle.names.specs.Table.{names};
 ghost use Rattle.sources.specs.Contents.{file_names};
 ghost use Rattle.sources.specs.Entering.{table_after};
 ghost use Rattle.sources.specs.Filed.{renamed, filed};
@@ -23,8 +22,8 @@ const FILE_BYTES: usize = 65536;
 impl TokenFile {
     // The source over the file's bytes. Its names are entered into the table, which a refusal leaves as it was.
     pub fn read(heap: Global, bytes: &[u8], table: &mut Names) -> Result<TokenFile, Refusal>
-        ensures value { Filing result (filed (names table.old) bytes.now) }
-        ensures entered { names table.new ≡ (if is_ok result then table_after (names table.old) (file_names bytes.now) else names table.old) }
+        ensures value { Filing result (filed table.old bytes.now) }
+        ensures entered { table.new ≡ (if is_ok result then table_after table.old (file_names bytes.now) else table.old) }
     {
         if bytes.len() > FILE_BYTES {
             return Err(Refusal::BadFile);

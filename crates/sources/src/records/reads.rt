@@ -63,19 +63,15 @@ impl<'a> Source for Records<'a> {
     ghost lawful = { meant_lawful };
 
     fn next(&mut self) -> Result<LexerToken, Closing> {
-        if let Some((first, rest)) = self.rest.split_first() {
-            let token = mend_token(self.last, *first);
-            self.rest = rest;
-            self.last = Some(token);
-            return Ok(token);
-        }
-        match missing_line_end(self.last, self.closing) {
-            Some(token) => {
-                self.last = Some(token);
-                Ok(token)
+        let token = match self.rest.split_first() {
+            Some((first, rest)) => {
+                self.rest = rest;
+                mend_token(self.last, *first)
             }
-            None => Err(self.closing),
-        }
+            None => missing_line_end(self.last, self.closing).ok_or(self.closing)?,
+        };
+        self.last = Some(token);
+        Ok(token)
     }
 
     fn had_comments(&self) -> bool {
