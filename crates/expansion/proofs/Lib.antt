@@ -2,7 +2,6 @@ pub mod Bars
 pub mod Stacks
 pub mod Counts
 pub mod Places
-pub mod Lines
 pub mod Meets
 pub mod Fronts
 pub mod Motions

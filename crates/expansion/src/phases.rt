@@ -95,6 +95,7 @@ impl MacroProcessor {
         self.base() < self.invocations.len()
     }
 
+    #[tactic(auto, using(crate::proofs::Bars::bars_is))]
     // Whether the name is in expansion, at any level.
     pub fn bars(&self, name: u32) -> bool
         ensures { result ≡ barred self.now.invocations.items name }
@@ -148,6 +149,7 @@ impl MacroProcessor {
         meter.build(x).err().map(|error| fail(error, x.location))
     }
 
+    #[tactic(auto, using(crate::proofs::Places::room_begun))]
     // A name is met: it starts an expansion, may be a call, or passes.
     pub fn begin<B: Book>(
         &mut self,
@@ -338,6 +340,7 @@ impl MacroProcessor {
         self.pass(callee.token(), meter)
     }
 
+    #[tactic(auto, using(crate::proofs::Places::room_placed))]
     // One match on what the processor is doing and what it meets.
     pub fn meet<B: Book>(
         &mut self,
