@@ -1,7 +1,7 @@
 -- A move keeps the invariant, changes no handle and takes back nothing.
 use Rattle.std.proofs.Common.{◌≡◌, ℕ, suc, ◌+◌, ◌-◌, ◌<◌, ◌≤◌, Bool, true, cond, eqb, List, [], map, length, get_or, Some, None, Ok, Err, Option, sym, refl, ap, ◌∙◌, subst, ⊎_elim, arith, ltb-true, eqb-true}
 use Rattle.std.proofs.lemmas.List.{length-set, length-take}
-use Rattle.std.proofs.lemmas.Bool.{cases_eq}
+use Rattle.std.proofs.lemmas.Bool.{cond_both, cases_eq}
 use Rattle.std.specs.List.{slice_get}
 use Rattle.tokens.specs.declared.token.Token.{Token}
 use Rattle.tokens.specs.declared.fault.StepExit.TheVariants.{Error, Continue, Finished}
@@ -16,7 +16,7 @@ use Rattle.expansion.specs.Processor.{Proc, Answer, fresh, idle, top, lowest, ba
 use Rattle.expansion.specs.Phases.{Made, Read, topped, in_arg, at_param, by_word, in_body, in_use, in_input, begun, meeting}
 use Rattle.expansion.specs.Sane.{Sane, Holds}
 use Rattle.expansion.specs.Moved.{Moved, PaysFor, Pays}
-use Rattle.expansion.proofs.Stacks.{by_test, Covers, covers_top, covers_take, covered, covered_waits, clear}
+use Rattle.expansion.proofs.Stacks.{Covers, covers_top, covers_take, covered, covered_waits, clear}
 use Rattle.expansion.proofs.Meets.{begun_holds, meeting_holds}
 use Rattle.expansion.proofs.Fronts.{same, meeting_went, begun_went, still, went_on}
 
@@ -51,7 +51,7 @@ use_read None d ws us gs = by (slice_get (mean d (top us).handle).body (top us).
 -- all that waits ends below the macros of the current level
 ends_below : (d : Defs) (us : List DefineInvocation) (bs : List Pending) → Sane d us bs → (i : ℕ) → i < length bs → (get_or bs i idle).end ≤ base bs
 ends_below d us bs s i l =
-    by_test (λ n. (get_or bs i idle).end ≤ n) (eqb (length bs) 0) 0 (lowest bs).end (λ b. absurd (omega (arith, eqb-true _ 0 b)))
+    cond_both (eqb (length bs) 0) 0 (lowest bs).end (λ n. (get_or bs i idle).end ≤ n) (λ b. absurd (omega (arith, eqb-true _ 0 b)))
     (λ _. ⊎_elim (λ e. let a = ap (λ k. (get_or bs k idle).end) e in omega (arith, a)) (λ n. s.rising i (length bs - 1) (omega arith) (omega arith)) (cases_eq i (length bs - 1)))
 
 grown_same : (d : Defs) → Grown d d

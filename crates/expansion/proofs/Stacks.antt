@@ -24,10 +24,6 @@ unbarred (u ∷ us) n b (suc i) h e = unbarred us n (rest (eqb u.name n) b) i (o
     rest true c = absurd (both_ways _ c refl)
     rest false c = c
 
-pub by_test : {T : Type 0} (P : T → Type 0) (b : Bool) (x y : T) → (b ≡ true → P x) → (b ≡ false → P y) → P (cond b x y)
-by_test P true x y f g = f refl
-by_test P false x y f g = g refl
-
 -- a name that is found is in force
 pub found_has : (es : List Entry) (i n h : ℕ) → seek es i n ≡ Some h → has es n ≡ true
 found_has [] i n h e = let z : ◌≡◌ {A = ℕ} 0 1 = cc in absurd (omega arith)
