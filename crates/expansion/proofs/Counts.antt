@@ -1,127 +1,68 @@
 -- The names in expansion number at most the definitions in force plus one.
-use Rattle.std.proofs.Common.{◌≡◌, ℕ, suc, ◌+◌, ◌<◌, ◌≤◌, Bool, true, false, cond, eqb, List, [], ◌∷◌, length, get_or, sym, refl, ap, ◌∙◌, subst, arith, eq-eqb, ne_eqb, eqb-true}
-use borrow.Author.Tests.{both_ways}
+use Rattle.std.proofs.Common.{◌≡◌, ℕ, suc, ◌+◌, ◌<◌, ◌≤◌, Bool, true, false, cond, eqb, List, [], ◌∷◌, ◌||◌, map, length, get_or, sym, refl, ap, ◌∙◌, arith, eq-eqb, ne_eqb, eqb-true}
+use Rattle.std.proofs.lemmas.Bool.{cond_both}
+use Rattle.std.proofs.lemmas.Cmp.{nat_eq_equiv}
+use Rattle.std.proofs.Math.Bool.{or-true}
+use Rattle.std.proofs.lemmas.List.{get_or-map, length-map}
+use Rattle.std.proofs.lemmas.Map.Keys.{IsDistinct-from_apart}
+use Rattle.std.proofs.lemmas.Map.Made.{length-le_from_is_member}
+use Rattle.std.specs.List.{IsDistinct}
+use Rattle.std.specs.Set.{is_member}
 use Rattle.expansion.specs.declared.invocation.DefineInvocation.{DefineInvocation}
 use Rattle.expansion.specs.declared.invocation.Pending.{Pending}
-use Rattle.books.specs.Book.{Entry, Defs, hit, has, live}
+use Rattle.books.specs.Book.{Entry, Defs, has, live}
 use Rattle.expansion.specs.Processor.{blank}
 use Rattle.expansion.specs.Sane.{Sane, Lawful}
 
-abbrev Absent : ℕ → List ℕ → Type 0
-Absent n [] = Unit {0}
-Absent n (m ∷ ms) = (n ≡ m → ⊥) × Absent n ms
+abbrev names : List DefineInvocation → List ℕ
+names us = map (λ u. u.name) us
 
-abbrev Apart : List ℕ → Type 0
-Apart [] = Unit {0}
-Apart (n ∷ ns) = Absent n ns × Apart ns
+-- the names in force
+abbrev forced : List Entry → List ℕ
+forced [] = []
+forced (e ∷ es) = cond e.live (e.def.name ∷ forced es) (forced es)
 
-abbrev AllIn : List Entry → List ℕ → Type 0
-AllIn es [] = Unit {0}
-AllIn es (n ∷ ns) = (has es n ≡ true) × AllIn es ns
-
-abbrev without : ℕ → List ℕ → List ℕ
-without m [] = []
-without m (n ∷ ns) = cond (eqb m n) ns (n ∷ without m ns)
-
-length_without : (m : ℕ) (ns : List ℕ) → length ns ≤ suc (length (without m ns))
-length_without m [] = omega arith
-length_without m (n ∷ ns) = both (eqb m n) (length_without m ns)
+length_forced : (es : List Entry) → length (forced es) ≡ live es
+length_forced [] = refl
+length_forced (e ∷ es) = both e.live (length_forced es)
   where
-    both : (b : Bool) → length ns ≤ suc (length (without m ns)) → length (n ∷ ns) ≤ suc (length (cond b ns (n ∷ without m ns)))
+    both : (b : Bool) → length (forced es) ≡ live es → length (cond b (e.def.name ∷ forced es) (forced es)) ≡ cond b 1 0 + live es
     both true h = omega arith
     both false h = omega arith
 
-absent_without : (n m : ℕ) (ns : List ℕ) → Absent n ns → Absent n (without m ns)
-absent_without n m [] a = a
-absent_without n m (k ∷ ns) a = both (eqb m k) (absent_without n m ns a.1)
+has_forced : (es : List Entry) (n : ℕ) → has es n ≡ true → is_member eqb (forced es) n ≡ true
+has_forced [] n h = h
+has_forced (e ∷ es) n h = both e.live (eqb e.def.name n) refl h (has_forced es n)
   where
-    both : (b : Bool) → Absent n (without m ns) → Absent n (cond b ns (k ∷ without m ns))
-    both true h = a.1
-    both false h = (a.0, h)
+    both : (b c : Bool) → eqb e.def.name n ≡ c → cond (cond b c false) true (has es n) ≡ true → (has es n ≡ true → is_member eqb (forced es) n ≡ true) → is_member eqb (cond b (e.def.name ∷ forced es) (forced es)) n ≡ true
+    both true true k g f = ap (λ t. t || is_member eqb (forced es) n) (eq-eqb n _ (sym (eqb-true _ n k)))
+    both true false k g f = ap (λ t. eqb n e.def.name || t) (f g) ∙ or-true _
+    both false c k g f = f g
 
-apart_without : (m : ℕ) (ns : List ℕ) → Apart ns → Apart (without m ns)
-apart_without m [] a = a
-apart_without m (k ∷ ns) a = both (eqb m k) (apart_without m ns a.1)
+known : (es : List Entry) (us : List DefineInvocation) (n : ℕ) → ((i : ℕ) → i < length us → has es (get_or us i blank).name ≡ true) → is_member eqb (names us) n ≡ true → has es n ≡ true
+known es [] n f h = absurd cc
+known es (u ∷ us) n f h = both (eqb n u.name) refl h (known es us n (λ i l. f (suc i) (omega arith)))
   where
-    both : (b : Bool) → Apart (without m ns) → Apart (cond b ns (k ∷ without m ns))
-    both true h = a.1
-    both false h = (absent_without k m ns a.0, h)
+    both : (b : Bool) → eqb n u.name ≡ b → (b || is_member eqb (names us) n) ≡ true → (is_member eqb (names us) n ≡ true → has es n ≡ true) → has es n ≡ true
+    both true e k g = ap (has es) (eqb-true n u.name e) ∙ f 0 (omega arith)
+    both false e k g = g k
 
-gone : (m : ℕ) (ns : List ℕ) → Apart ns → Absent m (without m ns)
-gone m [] a = tt
-gone m (k ∷ ns) a = both (eqb m k) refl (gone m ns a.1)
-  where
-    both : (b : Bool) → eqb m k ≡ b → Absent m (without m ns) → Absent m (cond b ns (k ∷ without m ns))
-    both true e h = subst (λ x. Absent x ns) (sym (eqb-true m k e)) a.0
-    both false e h = ((λ s. both_ways _ e (eq-eqb m k s)), h)
-
-all_without : (es : List Entry) (m : ℕ) (ns : List ℕ) → AllIn es ns → AllIn es (without m ns)
-all_without es m [] a = a
-all_without es m (k ∷ ns) a = both (eqb m k) (all_without es m ns a.1)
-  where
-    both : (b : Bool) → AllIn es (without m ns) → AllIn es (cond b ns (k ∷ without m ns))
-    both true h = a.1
-    both false h = (a.0, h)
-
-module _ (e : Entry) (es : List Entry) where
-  -- a definition that is not in force gives no name
-  past_dead : (ns : List ℕ) → e.live ≡ false → AllIn (e ∷ es) ns → AllIn es ns
-  past_dead [] d a = tt
-  past_dead (n ∷ ns) d a =
-      let z : hit e n ≡ false = ap (λ b. cond b (eqb e.def.name n) false) d in
-      (sym (ap (λ b. cond b true (has es n)) z) ∙ a.0, past_dead ns d a.1)
-
-  past_live : (ns : List ℕ) → e.live ≡ true → Absent e.def.name ns → AllIn (e ∷ es) ns → AllIn es ns
-  past_live [] d f a = tt
-  past_live (n ∷ ns) d f a =
-      let z : hit e n ≡ false = ap (λ b. cond b (eqb e.def.name n) false) d ∙ ne_eqb e.def.name n f.0 in
-      (sym (ap (λ b. cond b true (has es n)) z) ∙ a.0, past_live ns d f.1 a.1)
-
-bound : (es : List Entry) (ns : List ℕ) → Apart ns → AllIn es ns → length ns ≤ live es
-bound [] [] a h = omega arith
-bound [] (n ∷ ns) a h = absurd (both_ways false refl h.0)
-bound (e ∷ es) ns a h = both e.live refl (bound es)
-  where
-    both : (b : Bool) → e.live ≡ b → ((ms : List ℕ) → Apart ms → AllIn es ms → length ms ≤ live es) → length ns ≤ cond b 1 0 + live es
-    both true k f =
-        let m = e.def.name in
-        let w = f (without m ns) (apart_without m ns a) (past_live e es (without m ns) k (gone m ns a) (all_without (e ∷ es) m ns h)) in
-        omega (arith, w, length_without m ns)
-    both false k f = omega (arith, f ns a (past_dead e es ns k h))
-
-abbrev names : List DefineInvocation → List ℕ
-names [] = []
-names (u ∷ us) = u.name ∷ names us
-
-length_names : (us : List DefineInvocation) → length (names us) ≡ length us
-length_names [] = refl
-length_names (u ∷ us) = ap suc (length_names us)
-
-to_absent : (n : ℕ) (us : List DefineInvocation) → ((i : ℕ) → i < length us → n ≡ (get_or us i blank).name → ⊥) → Absent n (names us)
-to_absent n [] f = tt
-to_absent n (u ∷ us) f = (f 0 (omega arith), to_absent n us (λ i l. f (suc i) (omega arith)))
-
-to_apart : (us : List DefineInvocation) → ((i j : ℕ) → i < j → j < length us → (get_or us i blank).name ≡ (get_or us j blank).name → ⊥) → Apart (names us)
-to_apart [] f = tt
-to_apart (u ∷ us) f = (to_absent u.name us (λ i l. f 0 (suc i) (omega arith) (omega arith)), to_apart us (λ i j lt l. f (suc i) (suc j) (omega arith) (omega arith)))
-
-to_all : (es : List Entry) (us : List DefineInvocation) → ((i : ℕ) → i < length us → has es (get_or us i blank).name ≡ true) → AllIn es (names us)
-to_all es [] f = tt
-to_all es (u ∷ us) f = (f 0 (omega arith), to_all es us (λ i l. f (suc i) (omega arith)))
+apart : (us : List DefineInvocation) → ((i j : ℕ) → i < j → j < length us → (get_or us i blank).name ≡ (get_or us j blank).name → ⊥) → IsDistinct eqb (names us)
+apart us f = IsDistinct-from_apart eqb (names us) (λ i j d lt l.
+    let k = simp length-map at l in
+    ne_eqb _ _ (λ e. f i j lt k (sym (get_or-map (λ u. u.name) us i blank d (omega arith)) ∙ e ∙ get_or-map (λ u. u.name) us j blank d k)))
 
 few : (es : List Entry) (us : List DefineInvocation) → ((i j : ℕ) → i < j → j < length us → (get_or us i blank).name ≡ (get_or us j blank).name → ⊥) → ((i : ℕ) → 0 < i → i < length us → has es (get_or us i blank).name ≡ true) → length us ≤ suc (live es)
 few es [] a h = omega arith
 few es (u ∷ us) a h =
-    let w = bound es (names us) (to_apart us (λ i j lt l. a (suc i) (suc j) (omega arith) (omega arith))) (to_all es us (λ i l. h (suc i) (omega arith) (omega arith))) in
-    omega (arith, w, length_names us)
+    let d = apart us (λ i j lt l. a (suc i) (suc j) (omega arith) (omega arith)) in
+    let m : (n : ℕ) → is_member eqb (names us) n ≡ true → is_member eqb (forced es) n ≡ true = λ n k. has_forced es n (known es us n (λ i l. h (suc i) (omega arith) (omega arith)) k) in
+    let w = length-le_from_is_member nat_eq_equiv (names us) (forced es) d m in
+    omega (arith, w, length_forced es, simp length-map at w)
 
 pub live_length : (es : List Entry) → live es ≤ length es
 live_length [] = omega arith
-live_length (e ∷ es) = both e.live (live_length es)
-  where
-    both : (b : Bool) → live es ≤ length es → cond b 1 0 + live es ≤ length (e ∷ es)
-    both true h = omega arith
-    both false h = omega arith
+live_length (e ∷ es) = cond_both e.live 1 0 (λ k. k + live es ≤ suc (length es)) (λ _. omega (arith, live_length es)) (λ _. omega (arith, live_length es))
 
 pub sane_few : (d : Defs) (us : List DefineInvocation) (bs : List Pending) → Sane d us bs → length us ≤ suc (live d.table)
 sane_few d us bs s = few d.table us s.apart s.force

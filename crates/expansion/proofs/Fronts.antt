@@ -1,5 +1,6 @@
 -- A processor only adds to the stores: what it found there is a front of what it leaves.
 use Rattle.std.proofs.Common.{◌≡◌, ℕ, ◌+◌, ◌-◌, ◌<◌, ◌≤◌, eqb, ltb, [], ◌∷◌, ◌++◌, length, get_or, take, drop, Some, None, Ok, Err, Option, sym, refl, ap, ◌∙◌, subst, ⊎_elim, arith}
+use Rattle.std.proofs.lemmas.Bool.{cond_both}
 use borrow.Author.Tests.{eqb-false}
 use Rattle.std.proofs.lemmas.List.{length-take, length_push, get_or_push, get_or_append_left, get_or-take, take_all, take-take, take_at, take-append-le}
 use Rattle.std.proofs.str.Laws.{order}
@@ -19,7 +20,6 @@ use Rattle.expansion.specs.Delimiters.{delimits}
 use Rattle.expansion.specs.Processor.{Proc, Answer, phased, lined, idle, lowest, expanding, named}
 use Rattle.expansion.specs.Phases.{Out, passed, barred, calling, found, begun, reached, split, parted, waiting, descended, bare, counted, closed, storing, gathered, resumed, filled, returned, finished, by_name, holding, after_name, spent, meeting}
 use Rattle.expansion.specs.Sane.{Above, Fronts, Went}
-use Rattle.expansion.proofs.Stacks.{by_test}
 
 pub same : (b : ℕ) (t : Tank) → Fronts b t t
 same b t = record { working = take_all (length t.working) t.working (omega arith); building = refl }
@@ -54,8 +54,8 @@ module _ (b : ℕ) (t : Tank) where
 
   passed_stays : (p : Proc) (x : Token) → Above b p t → Stays b t (passed p t x)
   passed_stays p x h =
-      by_test (Stays b t) (eqb (length p.below) 0) _ _ (λ _. none _ p p h refl refl)
-      (λ _. by_test (Stays b t) (roomy t) _ _
+      cond_both (eqb (length p.below) 0) _ _ (Stays b t) (λ _. none _ p p h refl refl)
+      (λ _. cond_both (roomy t) _ _ (Stays b t)
       (λ _. record {
         above = record { long = omega (arith, h.long, length_push t.building x); here = h.here; deep = h.deep };
         fronts = record { working = (same b t).working; building = take-append-le b t.building (x ∷ []) h.long };
@@ -65,20 +65,20 @@ module _ (b : ℕ) (t : Tank) where
       (λ _. none _ p p h refl refl))
 
   begun_stays : (d : Defs) (p : Proc) (x : Token) (n : ℕ) → Above b p t → Stays b t (begun d p t x n)
-  begun_stays d p x n h = by_test (Stays b t) (barred p.uses n) _ _ (λ _. passed_stays p x h) (λ _. at (find d n))
+  begun_stays d p x n h = cond_both (barred p.uses n) _ _ (Stays b t) (λ _. passed_stays p x h) (λ _. at (find d n))
     where
       go : (c : Callee) (q : Proc) → q.below ≡ p.below → q.level.start ≡ p.level.start → Stays b t (calling d q t c)
-      go c q e f = by_test (Stays b t) (mean d c.handle).function _ _ (λ _. none _ p _ h e f) (λ _. none _ p _ h e f)
+      go c q e f = cond_both (mean d c.handle).function _ _ (Stays b t) (λ _. none _ p _ h e f) (λ _. none _ p _ h e f)
 
       at : (o : Option ℕ) → Stays b t (found o d p t x n)
       at None = passed_stays p x h
       at (Some k) =
           let c : Callee = record { name = n; handle = k; location = x.location } in
-          by_test (λ (q : Proc). Stays b t (calling d q t c)) (expanding p) p (lined p x.location.line) (λ _. go c p refl refl) (λ _. go c (lined p x.location.line) refl refl)
+          cond_both (expanding p) p (lined p x.location.line) (λ (q : Proc). Stays b t (calling d q t c)) (λ _. go c p refl refl) (λ _. go c (lined p x.location.line) refl refl)
 
   descended_stays : (p : Proc) (c : Call) (i : ℕ) → Above b p t → Stays b t (descended p t c i)
   descended_stays p c i h =
-      by_test (Stays b t) (ltb (length p.below) 16) _ _
+      cond_both (ltb (length p.below) 16) _ _ (Stays b t)
       (λ _. record { above = record { long = h.long; here = λ _. h.long; deep = deeper }; fronts = same b t; moves = refl; budget = refl })
       (λ _. none _ p p h refl refl)
     where
@@ -92,9 +92,9 @@ module _ (b : ℕ) (t : Tank) where
 
   counted_stays : (p : Proc) (c : Call) (a : ℕ) → Above b p t → Stays b t (counted p t c a)
   counted_stays p c a h =
-      by_test (Stays b t) (ltb a c.count) _ _
-      (λ _. by_test (Stays b t) (bare p c a) _ _ (λ _. descended_stays p c 0 h) (λ _. none _ p p h refl refl))
-      (λ _. by_test (Stays b t) (ltb c.count a) _ _ (λ _. none _ p p h refl refl) (λ _. descended_stays p c 0 h))
+      cond_both (ltb a c.count) _ _ (Stays b t)
+      (λ _. cond_both (bare p c a) _ _ (Stays b t) (λ _. descended_stays p c 0 h) (λ _. none _ p p h refl refl))
+      (λ _. cond_both (ltb c.count a) _ _ (Stays b t) (λ _. none _ p p h refl refl) (λ _. descended_stays p c 0 h))
 
   closed_stays : (d : Defs) (p : Proc) (c : Call) (l : Location) → Above b p t → Stays b t (closed d p t c l)
   closed_stays d p c l h =
@@ -103,11 +103,11 @@ module _ (b : ℕ) (t : Tank) where
       let a = length (mean d c.callee.handle).params in
       let k : Above b q t = record { long = h.long; here = h.here; deep = h.deep } in
       let j : Above b (lined q l.line) t = record { long = h.long; here = h.here; deep = h.deep } in
-      by_test (λ (q : Proc). Stays b t (counted q t s a)) (expanding q) q (lined q l.line) (λ _. counted_stays q s a k) (λ _. counted_stays (lined q l.line) s a j)
+      cond_both (expanding q) q (lined q l.line) (λ (q : Proc). Stays b t (counted q t s a)) (λ _. counted_stays q s a k) (λ _. counted_stays (lined q l.line) s a j)
 
   storing_stays : (p : Proc) (c : Call) (x : Token) → Above b p t → Stays b t (storing p t c x)
   storing_stays p c x h =
-      by_test (Stays b t) (roomy t) _ _
+      cond_both (roomy t) _ _ (Stays b t)
       (λ _. record {
         above = record { long = h.long; here = h.here; deep = h.deep };
         fronts = record { working = take_at t.working (x ∷ []) (length t.working) refl; building = refl };
@@ -119,21 +119,21 @@ module _ (b : ℕ) (t : Tank) where
   gathered_stays : (v : Delimiter) (d : Defs) (p : Proc) (c : Call) (x : Token) → Above b p t → Stays b t (gathered v d p t c x)
   gathered_stays Other d p c x h = storing_stays p (reached c c.nesting x.location) x h
   gathered_stays Open d p c x h =
-      by_test (Stays b t) (ltb c.nesting 4294967295) _ _ (λ _. storing_stays p (reached c (c.nesting + 1) x.location) x h) (λ _. none _ p p h refl refl)
+      cond_both (ltb c.nesting 4294967295) _ _ (Stays b t) (λ _. storing_stays p (reached c (c.nesting + 1) x.location) x h) (λ _. none _ p p h refl refl)
   gathered_stays Close d p c x h =
-      by_test (Stays b t) (eqb c.nesting 0) _ _ (λ _. closed_stays d p c x.location h) (λ _. storing_stays p (reached c (c.nesting - 1) x.location) x h)
+      cond_both (eqb c.nesting 0) _ _ (Stays b t) (λ _. closed_stays d p c x.location h) (λ _. storing_stays p (reached c (c.nesting - 1) x.location) x h)
   gathered_stays Comma d p c x h =
-      by_test (Stays b t) (eqb c.nesting 0) _ _ (λ _. none _ p _ h refl refl) (λ _. storing_stays p (reached c c.nesting x.location) x h)
+      cond_both (eqb c.nesting 0) _ _ (Stays b t) (λ _. none _ p _ h refl refl) (λ _. storing_stays p (reached c c.nesting x.location) x h)
 
   holding_stays : (p : Proc) (q : Callee) (a : Answer) → Above b p t → Stays b t (holding p t q a)
   holding_stays p q a h = passed_stays (phased p (Held a)) (named q) (record { long = h.long; here = h.here; deep = h.deep })
 
 returned_stays : (b : ℕ) (p : Proc) (t : Tank) (i : ℕ) (c : Call) → Above b p t → Stays b t (returned p t i c)
-returned_stays b p t i c h = by_test (Stays b t) (ltb (i + 1) c.count) _ _ (λ _. descended_stays b t p c (i + 1) h) (λ _. none b t _ p _ h refl refl)
+returned_stays b p t i c h = cond_both (ltb (i + 1) c.count) _ _ (Stays b t) (λ _. descended_stays b t p c (i + 1) h) (λ _. none b t _ p _ h refl refl)
 
 finished_stays : (b : ℕ) (p : Proc) (t : Tank) → Above b p t → Stays b t (finished p t)
 finished_stays b p t h =
-    by_test (Stays b t) (eqb (length p.below) 0) _ _ (λ _. none b t _ p p h refl refl)
+    cond_both (eqb (length p.below) 0) _ _ (Stays b t) (λ _. none b t _ p p h refl refl)
     (λ e.
     let o : 0 < length p.below = omega (arith, eqb-false _ 0 e) in
     let q = lowest p.below in
@@ -174,7 +174,7 @@ meeting_stays b (Met q) (Ok x) d p t h = by (delimits x.value)
     by Other = holding_stays b t p q (Ok x) h
 meeting_stays b (Met q) (Err Continue) d p t h = none b t _ p p h refl refl
 meeting_stays b (Met q) (Err Finished) d p t h = holding_stays b t p q (Err Finished) h
-meeting_stays b (Met q) (Err (Error f)) d p t h = by_test (Stays b t) (spent f.error) _ _ (λ _. none b t _ p p h refl refl) (λ _. holding_stays b t p q (Err (Error f)) h)
+meeting_stays b (Met q) (Err (Error f)) d p t h = cond_both (spent f.error) _ _ (Stays b t) (λ _. none b t _ p p h refl refl) (λ _. holding_stays b t p q (Err (Error f)) h)
 meeting_stays b (Gather c) (Ok x) d p t h = gathered_stays b t (delimits x.value) d p c x h
 meeting_stays b (Gather c) (Err Continue) d p t h = none b t _ p p h refl refl
 meeting_stays b (Gather c) (Err Finished) d p t h = none b t _ p p h refl refl

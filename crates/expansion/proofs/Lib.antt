@@ -1,10 +1,7 @@
-pub mod Copies
 pub mod Bars
 pub mod Stacks
 pub mod Counts
 pub mod Places
-pub mod Lines
-pub mod Items
 pub mod Meets
 pub mod Fronts
 pub mod Motions

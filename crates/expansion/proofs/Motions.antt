@@ -1,25 +1,22 @@
 -- A move keeps the invariant, changes no handle and takes back nothing.
-use Rattle.std.proofs.Common.{◌≡◌, ℕ, suc, ◌+◌, ◌-◌, ◌<◌, ◌≤◌, Bool, true, false, cond, eqb, List, [], map, length, get_or, take, Some, None, Ok, Err, Option, sym, refl, ap, ◌∙◌, subst, ⊎_elim, arith, ltb-false, ltb-true, eqb-true}
-use Rattle.std.proofs.lemmas.List.{length-set, length-take, take_all}
-use Rattle.std.proofs.lemmas.Bool.{cases_eq}
+use Rattle.std.proofs.Common.{◌≡◌, ℕ, suc, ◌+◌, ◌-◌, ◌<◌, ◌≤◌, Bool, true, cond, eqb, List, [], map, length, get_or, Some, None, Ok, Err, Option, sym, refl, ap, ◌∙◌, subst, ⊎_elim, arith, ltb-true, eqb-true}
+use Rattle.std.proofs.lemmas.List.{length-set, length-take}
+use Rattle.std.proofs.lemmas.Bool.{cond_both, cases_eq}
 use Rattle.std.specs.List.{slice_get}
 use Rattle.tokens.specs.declared.token.Token.{Token}
-use Rattle.tokens.specs.declared.location.Location.{Location}
-use Rattle.tokens.specs.declared.fault.PreprocessorError.{PreprocessorError}
 use Rattle.tokens.specs.declared.fault.StepExit.TheVariants.{Error, Continue, Finished}
 use Rattle.stores.specs.declared.span.Span.{Span}
 use Rattle.stores.specs.Places.{place}
 use Rattle.stores.specs.Idents.{ident_of}
-use Rattle.stores.specs.Tank.{Tank, Spends, spending, read}
+use Rattle.stores.specs.Tank.{Tank, spending, read}
 use Rattle.books.specs.Book.{Defs, mean, Grown}
 use Rattle.expansion.specs.declared.invocation.DefineInvocation.{DefineInvocation}
 use Rattle.expansion.specs.declared.invocation.Pending.{Pending}
-use Rattle.expansion.specs.declared.invocation.Phase.TheVariants.{Plain}
-use Rattle.expansion.specs.Processor.{Proc, Answer, fresh, fault, phased, idle, top, lowest, base, expanding}
+use Rattle.expansion.specs.Processor.{Proc, Answer, fresh, idle, top, lowest, base, expanding}
 use Rattle.expansion.specs.Phases.{Made, Read, topped, in_arg, at_param, by_word, in_body, in_use, in_input, begun, meeting}
 use Rattle.expansion.specs.Sane.{Sane, Holds}
 use Rattle.expansion.specs.Moved.{Moved, PaysFor, Pays}
-use Rattle.expansion.proofs.Stacks.{by_test, Covers, covers_top, covers_take, covered, covered_waits, clear, clear_waits}
+use Rattle.expansion.proofs.Stacks.{Covers, covers_top, covers_take, covered, covered_waits, clear}
 use Rattle.expansion.proofs.Meets.{begun_holds, meeting_holds}
 use Rattle.expansion.proofs.Fronts.{same, meeting_went, begun_went, still, went_on}
 
@@ -54,7 +51,7 @@ use_read None d ws us gs = by (slice_get (mean d (top us).handle).body (top us).
 -- all that waits ends below the macros of the current level
 ends_below : (d : Defs) (us : List DefineInvocation) (bs : List Pending) → Sane d us bs → (i : ℕ) → i < length bs → (get_or bs i idle).end ≤ base bs
 ends_below d us bs s i l =
-    by_test (λ n. (get_or bs i idle).end ≤ n) (eqb (length bs) 0) 0 (lowest bs).end (λ b. absurd (omega (arith, eqb-true _ 0 b)))
+    cond_both (eqb (length bs) 0) 0 (lowest bs).end (λ n. (get_or bs i idle).end ≤ n) (λ b. absurd (omega (arith, eqb-true _ 0 b)))
     (λ _. ⊎_elim (λ e. let a = ap (λ k. (get_or bs k idle).end) e in omega (arith, a)) (λ n. s.rising i (length bs - 1) (omega arith) (omega arith)) (cases_eq i (length bs - 1)))
 
 grown_same : (d : Defs) → Grown d d
@@ -84,37 +81,10 @@ read_moved d p q t r b c e w = subst (λ x. Moved d p t d x t) (sym w.proc) (rec
     lt : base p.below < length p.uses
     lt = ltb-true _ _ (sym c ∙ e)
 
--- the feed is stepped: nothing is in expansion then
-pub fed_moved : (d e : Defs) (p : Proc) (t u : Tank) (b : Bool) → b ≡ expanding p → b ≡ false → length p.below ≡ 0 → Grown d e → Spends t u → Moved d p t e p u
-fed_moved d e p t u b c f z g s = record {
-  holds = λ h. (clear d e p.uses nil p.below z, clear_waits d e p.uses nil g p.phase h.1);
-  went = record {
-    moves = s.moves;
-    budget = s.budget;
-    keeps = λ b h. record {
-      above = record { long = subst (λ l. b ≤ length l) (sym s.building) h.long; here = h.here; deep = h.deep };
-      fronts = record { working = ap (take (length t.working)) s.working ∙ take_all (length t.working) t.working (omega arith); building = ap (take b) s.building };
-    };
-  };
-  grown = g;
-}
-  where
-    nil : length p.uses ≡ 0
-    nil =
-        let k : base p.below ≡ 0 = by_test (λ n. n ≡ 0) (eqb (length p.below) 0) 0 (lowest p.below).end (λ _. refl) (λ n. absurd (no n)) in
-        omega (arith, ltb-false (base p.below) (length p.uses) (sym c ∙ f))
-      where
-        no : eqb (length p.below) 0 ≡ false → ⊥
-        no n = let y : eqb (length p.below) 0 ≡ true = ap (λ m. eqb m 0) z in let w : ◌≡◌ {A = Bool} true false = sym y ∙ n in absurd (let k : ◌≡◌ {A = ℕ} 0 1 = cc in omega arith)
-
 -- the argument that a level expands is read on
 pub input_moved : (d : Defs) (p q : Proc) (t : Tank) (o : Option Token) → q ≡ (in_input o p).1 → Moved d p t d q t
 input_moved d p q t (Some x) e = subst (λ x. Moved d p t d x t) (sym e) (record { holds = λ h. h; went = still p _ t refl refl; grown = grown_same d })
 input_moved d p q t None e = subst (λ x. Moved d p t d x t) (sym e) (none_moved d p t)
-
--- what was held back is met
-pub held_moved : (d : Defs) (p : Proc) (t : Tank) → Moved d p t d (phased p Plain) t
-held_moved d p t = record { holds = λ h. (h.0, tt); went = still p _ t refl refl; grown = grown_same d }
 
 pub met_moved : (d : Defs) (p : Proc) (t : Tank) (a : Answer) (r : Option Answer) (q : Proc) (u : Tank) → Made (meeting p.phase a d p t) r q u → Moved d p t d q u
 met_moved d p t a r q u w =
@@ -146,22 +116,12 @@ paid (Some (Err Continue)) t u l = l
 paid (Some (Err Finished)) t u l = l
 paid (Some (Err (Error f))) t u l = tt
 
-pub paid_for : (a : Answer) (t u : Tank) → t.moves < u.moves → PaysFor a t u
-paid_for a t u l = paid (Some a) t u l
-
 -- a later end has paid as much
 pub pays_later : (a : Answer) (t u v : Tank) → t.moves ≤ u.moves → PaysFor a u v → PaysFor a t v
 pays_later (Ok x) t u v l h = omega arith
 pays_later (Err Continue) t u v l h = omega arith
 pays_later (Err Finished) t u v l h = omega arith
 pays_later (Err (Error f)) t u v l h = tt
-
--- no move is left
-pub refused_moved : (d : Defs) (p : Proc) (t u : Tank) (b : Bool) → b ≡ false → u ≡ cond b (spending t (t.moves + 1)) t → Moved d p t d p u
-refused_moved d p t u b e f = subst (λ x. Moved d p t d p x) (sym (f ∙ ap (λ c. cond c (spending t (t.moves + 1)) t) e)) (none_moved d p t)
-
-pub paid_fault : (a : Answer) (e : PreprocessorError) (l : Location) (t u : Tank) → a ≡ fault e l → PaysFor a t u
-paid_fault a e l t u h = subst (λ x. PaysFor x t u) (sym h) tt
 
 -- nothing is in expansion yet
 pub fresh_holds : (d : Defs) (p : Proc) (gs : List Span) → p ≡ fresh gs → Holds d p

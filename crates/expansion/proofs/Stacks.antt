@@ -1,7 +1,8 @@
 -- The invariant under each change of the uses, of the waiting calls and of the book.
-use Rattle.std.proofs.Common.{◌≡◌, ℕ, zero, suc, ◌+◌, ◌-◌, ◌<◌, ◌≤◌, Bool, true, false, cond, eqb, List, [], ◌∷◌, ◌++◌, length, get_or, take, Some, sym, refl, ap, ◌∙◌, subst, inl, inr, ⊎_elim, arith, eq-eqb}
+use Rattle.std.proofs.Common.{◌≡◌, ℕ, ◌+◌, ◌-◌, ◌<◌, ◌≤◌, Bool, true, false, cond, eqb, List, [], ◌∷◌, ◌++◌, length, get_or, take, Some, sym, refl, ap, ◌∙◌, subst, inl, inr, ⊎_elim, arith, eq-eqb}
 use borrow.Author.Tests.{both_ways}
 use Rattle.std.proofs.lemmas.List.{length-set, length-take, get_or-set_same, get_or-set_other, get_or-take, length_push, get_or_push, get_or_append_left}
+use Rattle.std.proofs.lemmas.List.Folds.{list_any_at}
 use Rattle.std.proofs.lemmas.Bool.{cases_eq}
 use Rattle.std.proofs.str.Laws.{order}
 use Rattle.expansion.specs.declared.invocation.DefineInvocation.{DefineInvocation}
@@ -16,17 +17,7 @@ use Rattle.expansion.specs.Sane.{Bears, Free, FreeOf, Sane, Waits, Holds}
 
 -- a name that is not barred is that of no use
 pub unbarred : (us : List DefineInvocation) (n : ℕ) → barred us n ≡ false → (i : ℕ) → i < length us → (get_or us i blank).name ≡ n → ⊥
-unbarred [] n b i h e = absurd (omega arith)
-unbarred (u ∷ us) n b zero h e = both_ways _ b (ap (λ c. cond c true (barred us n)) (eq-eqb _ n e))
-unbarred (u ∷ us) n b (suc i) h e = unbarred us n (rest (eqb u.name n) b) i (omega arith) e
-  where
-    rest : (t : Bool) → cond t true (barred us n) ≡ false → barred us n ≡ false
-    rest true c = absurd (both_ways _ c refl)
-    rest false c = c
-
-pub by_test : {T : Type 0} (P : T → Type 0) (b : Bool) (x y : T) → (b ≡ true → P x) → (b ≡ false → P y) → P (cond b x y)
-by_test P true x y f g = f refl
-by_test P false x y f g = g refl
+unbarred us n b i h e = both_ways _ b (list_any_at (λ u. eqb u.name n) us i blank h (eq-eqb _ n e))
 
 -- a name that is found is in force
 pub found_has : (es : List Entry) (i n h : ℕ) → seek es i n ≡ Some h → has es n ≡ true

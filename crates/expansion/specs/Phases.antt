@@ -2,8 +2,8 @@
 -- in_arg, at_param, by_word, in_body, in_use: the top macro is read on; in_input: the argument that a level expands
 -- entered, passed, begun, descended, counted, closed, storing, gathered, finished, holding: what each case does
 -- meeting f a d p t: the phase f meets the step a: no answer yet, or the answer of the step, with what is left of the processor and the meter
-use Rattle.std.specs.Prelude.{◌≡◌, ℕ, ◌+◌, ◌-◌, Bool, true, false, cond, List, [], ◌∷◌, ◌++◌, map, length, take, Some, None, Ok, Err, Option, ◌==◌, nat_lt, slice_set}
-use Rattle.std.specs.List.{slice_get}
+use Rattle.std.specs.Prelude.{◌≡◌, ℕ, ◌+◌, ◌-◌, Bool, false, cond, List, [], ◌∷◌, ◌++◌, map, length, take, Some, None, Ok, Err, Option, ◌==◌, nat_lt, slice_set}
+use Rattle.std.specs.List.{slice_get, list_any}
 use Rattle.std.specs.Option.{option_map}
 use Rattle.tokens.specs.declared.location.Location.{Location}
 use Rattle.tokens.specs.declared.token.Token.{Token}
@@ -91,8 +91,7 @@ passed p t x =
     (cond (roomy t) (None, p, built t x) (Some (fault WorkingTokensFull x.location), p, t))
 
 abbrev pub barred : List DefineInvocation → ℕ → Bool
-barred [] n = false
-barred (u ∷ us) n = cond (u.name == n) true (barred us n)
+barred us n = list_any (λ u. u.name == n) us
 
 -- the line of the first macro in expansion is the one that counts
 abbrev pub starting : Proc → ℕ → Proc

@@ -31,6 +31,7 @@ impl MacroProcessor {
         requires { Holds (F.Book.defs feed.old) (view self.old) }
         ensures { Moved (F.Book.defs feed.old) (view self.old) (tank meter.old) (F.Book.defs feed.new) (view self.new) (tank meter.new) }
     {
+        // `unwrap_or_else` was tried: what its closure leaves of the processor was not proved
         match self.begin(x, name, feed, meter) {
             Some(answer) => answer,
             None => self.step(feed, meter),

@@ -96,6 +96,7 @@ impl MacroProcessor {
     }
 
     // Whether the name is in expansion, at any level.
+    #[tactic(auto, using(crate::proofs::Bars::bars_is))]
     pub fn bars(&self, name: u32) -> bool
         ensures { result ≡ barred self.now.invocations.items name }
     {
@@ -149,6 +150,7 @@ impl MacroProcessor {
     }
 
     // A name is met: it starts an expansion, may be a call, or passes.
+    #[tactic(auto, using(crate::proofs::Places::room_begun))]
     pub fn begin<B: Book>(
         &mut self,
         x: Token,
@@ -227,15 +229,12 @@ impl MacroProcessor {
     fn part(&mut self, call: Call, mark: usize)
         ensures { view self.new ≡ parted (view self.old) call mark }
     {
+        let argument = Span {
+            from: call.from,
+            to: mark,
+        };
         let slot = self.call_slot();
-        self.set_argument(
-            slot,
-            call.count,
-            Span {
-                from: call.from,
-                to: mark,
-            },
-        );
+        self.set_argument(slot, call.count, argument);
     }
 
     // The call's own `)`.
@@ -272,6 +271,7 @@ impl MacroProcessor {
     }
 }
 
+// The book and the meter stay two parameters: the book is a loan of the feed, and most phases want only one of them.
 impl MacroProcessor {
     // A token of a call's arguments.
     fn gather<B: Book>(
@@ -318,16 +318,24 @@ impl MacroProcessor {
         requires { Placed self.old.below.items }
         ensures { Made (finished (view self.old) (tank meter.old)) result (view self.new) (tank meter.new) }
     {
-        let Some(q) = self.below.pop() else {
+        let Some(
+            Pending {
+                call,
+                next,
+                level,
+                end,
+            },
+        ) = self.below.pop()
+        else {
             return Some(Err(StepExit::Finished));
         };
         let part = meter.shift(self.level.start);
         self.phase = Phase::Plain;
-        self.level = q.level;
-        self.invocations.truncate(q.end);
+        self.level = level;
+        self.invocations.truncate(end);
         let slot = self.call_slot();
-        self.set_argument(slot, q.next, part);
-        self.resume(q.next, q.call, meter)
+        self.set_argument(slot, next, part);
+        self.resume(next, call, meter)
     }
 
     // What follows a function-like name that is no call is held back, and the name passes.
@@ -339,6 +347,7 @@ impl MacroProcessor {
     }
 
     // One match on what the processor is doing and what it meets.
+    #[tactic(auto, using(crate::proofs::Places::room_placed))]
     pub fn meet<B: Book>(
         &mut self,
         met: Step<Token>,
@@ -361,17 +370,8 @@ impl MacroProcessor {
                 None
             }
             // moves spent is never held back
-            (
-                Phase::Met(_),
-                Err(
-                    StepExit::Error(
-                        Fault {
-                            error: PreprocessorError::MovesSpent,
-                            ..
-                        },
-                    ),
-                ),
-            ) => Some(met),
+            (Phase::Met(_), Err(StepExit::Error(f)))
+                if matches!(f.error, PreprocessorError::MovesSpent) => Some(met),
             (Phase::Met(callee), Ok(_) | Err(StepExit::Finished | StepExit::Error(_))) => {
                 self.hold(callee, met, meter)
             }

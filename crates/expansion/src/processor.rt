@@ -4,6 +4,8 @@ ghost use Rattle.std.specs.Prelude.{◌≡◌, ℕ, ◌≤◌, vec_len, vec_capa
 use crate::invocation::{DefineInvocation, Level, Pending, Phase};
 use stores::span::Span;
 
+// The clauses write these limits as numbers, so that no change of a constant changes what is promised.
+
 // At most this many levels wait.
 pub const MAX_LEVELS: usize = 16;
 

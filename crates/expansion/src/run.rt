@@ -9,6 +9,7 @@ use stores::meter::Meter;
 
 // However many steps are made, no name is in expansion twice, each handle bears its macro's name, and the names
 // in expansion number at most the definitions in force plus one.
+#[tactic(auto, using(crate::proofs::Counts::sane_lawful))]
 pub fn after_steps<F: Feed>(
     heap: Global,
     feed: &mut F,

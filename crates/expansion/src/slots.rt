@@ -37,6 +37,7 @@ impl MacroProcessor {
     pub fn copy_arguments(&mut self, from: usize, to: usize, count: usize)
         ensures { view self.new ≡ argued (view self.old) (copied self.old.arguments.items from to count) }
     {
+        // no `copy_within`: both slots and the count would have to be tested for range first
         for i in 0..count {
             let s = self.argument(from, i);
             self.set_argument(to, i, s);

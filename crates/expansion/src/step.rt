@@ -13,6 +13,7 @@ use tokens::fault::{Fault, Layer, Step};
 use tokens::token::{Integer, Token, TokenValue};
 use tokens::words::LINE_MACRO;
 
+// The feed and the meter stay two parameters: callers hold them apart, and `Feed::step` wants both as they are.
 impl MacroProcessor {
     // The top macro is read on, or else the input: of level 0 the feed, of a deeper level the argument that it expands.
     fn step_internal<F: Feed>(&mut self, feed: &mut F, meter: &mut Meter) -> Step<Token>

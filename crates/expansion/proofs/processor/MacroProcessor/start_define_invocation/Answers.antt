@@ -3,9 +3,6 @@ use Rattle.expansion.specs.Processor.{view}
 use Rattle.expansion.proofs.Motions.{begun_moved, then_moved}
 use Rattle.expansion.proofs.processor.MacroProcessor.start_define_invocation.Goals as goal
 
-pub begin-requires : goal.begin-requires
-begin-requires g c = c.requires.0
-
 pub step-requires : goal.step-requires
 step-requires g c =
     (begun_moved (g.F.Book.defs c.args.feed.now) (view c.args.self.now) (tank c.args.meter.now) _ _ _ _ _ c.begin.ensures).holds c.requires

@@ -1,19 +1,12 @@
-use Rattle.std.proofs.Common.{◌≡◌, length, vec_items, sym, ◌∙◌, arith, eqb-true}
+use Rattle.std.proofs.Common.{vec_items}
 use Rattle.stores.specs.Tank.{tank, read}
 use Rattle.expansion.specs.Processor.{view}
-use Rattle.expansion.proofs.Motions.{read_moved, fed_moved, input_moved}
+use Rattle.expansion.proofs.Motions.{read_moved, input_moved}
 use Rattle.expansion.proofs.processor.MacroProcessor.step_internal.Goals as goal
 
 pub returns-then-is_expanding_define : goal.returns-then-is_expanding_define
 returns-then-is_expanding_define g c =
     read_moved _ (view c.args.self.now) _ (tank c.args.meter.now) _ _ c.is_expanding_define.ensures c.if-is_expanding_define.true c.read_invocation.ensures
-
-pub returns-then-is_empty : goal.returns-then-is_empty
-returns-then-is_empty g c =
-    let p = c.args.self.now in
-    let e = eqb-true _ 0 (sym c.is_empty.ensures ∙ c.if-is_empty.true) in
-    let z : length (vec_items p.below) ≡ 0 = omega (arith, e, p.below.ok.0) in
-    fed_moved _ _ (view p) _ _ _ c.is_expanding_define.ensures c.if-is_expanding_define.false z c.step.ensures.handles c.step.ensures.stores
 
 pub returns-else-is_empty : goal.returns-else-is_empty
 returns-else-is_empty g c =
