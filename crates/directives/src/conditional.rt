@@ -6,14 +6,12 @@ ghost use Rattle.stores.specs.Places.{latest};
 ghost use Rattle.reading.specs.Blocks.{pushed};
 ghost use Rattle.directives.specs.Segments.{else_on, end_on, elif_on, decided, if_on};
 ghost use Rattle.directives.specs.Unchanged.{Weighed};
-ghost use Rattle.expansion.specs.Processor.{view};
-ghost use Rattle.expansion.specs.Sane.{Holds};
-ghost use Rattle.expansion.specs.Moved.{Moved};
+ghost use Rattle.conditions.specs.Looks.{Ready, Looked};
 
 use crate::processor::DirectiveProcessor;
 use books::{Book, Feed};
+use conditions::evaluator::Evaluator;
 use conditions::if_lexer::IfLexer;
-use conditions::if_parser::IfParser;
 use reading::blocks::DirectiveBlock;
 use sources::source::Source;
 use stores::guard::Guard;
@@ -23,16 +21,12 @@ use tokens::fault::{Fault, Layer, PreprocessorError, Step};
 use tokens::location::Location;
 
 // A second expression may follow the line of `#line`; its value is of no account.
-fn pass_second_expression<F: Feed>(
-    parser: &mut IfParser,
-    lexer: &mut F,
-    meter: &mut Meter,
-) -> Result<(), Fault>
-    requires { Holds (F.Book.defs lexer.old) (view parser.old.processor) }
-    ensures { Moved (F.Book.defs lexer.old) (view parser.old.processor) (tank meter.old) (F.Book.defs lexer.new) (view parser.new.processor) (tank meter.new) }
+fn pass_second_expression<F: Feed>(evaluator: &mut Evaluator<'_, F>) -> Result<(), Fault>
+    requires { Ready F.Book.defs evaluator.old }
+    ensures { Looked F.Book.defs evaluator.old evaluator.new }
 {
-    if parser.peek(lexer, meter)?.is_some() {
-        let _ = parser.evaluate_expression(lexer, meter)?;
+    if evaluator.peek()?.is_some() {
+        let _ = evaluator.evaluate_expression()?;
     }
     Ok(())
 }
@@ -55,8 +49,13 @@ impl<S: Source> DirectiveProcessor<S> {
             place: self.reader.last,
             book: &self.defines,
         };
-        let value = self.parser.evaluate_expression(&mut lexer, meter)?;
-        match self.parser.peek(&mut lexer, meter)? {
+        let mut evaluator = Evaluator {
+            parser: &mut self.parser,
+            lexer: &mut lexer,
+            meter,
+        };
+        let value = evaluator.evaluate_expression()?;
+        match evaluator.peek()? {
             Some(token) => Err(Fault::unexpected(token, Layer::Directives)),
             None => Ok(value != 0),
         }
@@ -271,13 +270,18 @@ impl<S: Source> DirectiveProcessor<S> {
             place: self.reader.last,
             book: &self.defines,
         };
-        let value = self.parser.evaluate_expression(&mut lexer, meter)?;
+        let mut evaluator = Evaluator {
+            parser: &mut self.parser,
+            lexer: &mut lexer,
+            meter,
+        };
+        let value = evaluator.evaluate_expression()?;
         let Ok(number) = u32::try_from(value) else {
             return Err(Fault::new(PreprocessorError::LineOverflow, location, Layer::Directives));
         };
         self.line_offset = i64::from(number) - i64::from(location.line);
-        pass_second_expression(&mut self.parser, &mut lexer, meter)?;
-        match self.parser.peek(&mut lexer, meter)? {
+        pass_second_expression(&mut evaluator)?;
+        match evaluator.peek()? {
             Some(token) => Err(Fault::unexpected(token, Layer::Directives)),
             None => Ok(()),
         }
