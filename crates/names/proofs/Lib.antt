@@ -2,5 +2,4 @@
 pub mod Tables
 pub mod Cuts
 pub mod Numbers
-pub mod Growth
 pub mod Words

@@ -11,13 +11,6 @@ use Rattle.tokens.specs.declared.token.Part.{Part}
 use Rattle.names.specs.Spans.{spanned, listed, Within, Distinct}
 use Rattle.names.specs.Interning.{seek}
 
--- a span that was read from the list ends within the bytes
-pub ends_within : (bs : List ℕ) (ss : List Part) (i : ℕ) (s : Part) → Within bs ss → i < length ss → s ≡ get_or ss i s → s.start + s.len ≤ length bs
-ends_within bs ss i s w h e = subst (λ (x : Part). x.start + x.len ≤ length bs) (sym e) (w i s h)
-
-pub is_name : (bs : List ℕ) (ss : List Part) (i : ℕ) (s : Part) → i < length ss → s ≡ get_or ss i s → spanned bs s ≡ get_or (listed bs ss) i []
-is_name bs ss i s h e = ap (spanned bs) e ∙ sym (get_or-map (spanned bs) ss i s [] h)
-
 same_test : (a b : List ℕ) → a ≡ b → bytes_eq a b ≡ true
 same_test a b e = (bytes_eq-Decides a b).1 e
 
