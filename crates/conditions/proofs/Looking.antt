@@ -1,19 +1,18 @@
 -- A fresh processor serves every book; how looks compose.
-use Rattle.std.proofs.Common.{◌≡◌, ℕ, ◌<◌, ◌≤◌, Bool, true, false, List, ℤ, is_err, Some, None, Ok, Err, Option, Result, sym, refl, ap, ◌∙◌, subst, arith}
+use Rattle.std.proofs.Common.{◌≡◌, ℕ, ◌<◌, ◌≤◌, Bool, true, false, List, ℤ, is_err, Some, None, Ok, Err, Option, Result, sym, refl, ◌∙◌, subst, arith}
 use Rattle.tokens.specs.declared.fault.Fault.{Fault}
 use Rattle.tokens.specs.declared.token.Token.{Token}
 use Rattle.tokens.specs.declared.token.TokenValue.{TokenValue}
 use Rattle.tokens.specs.declared.token.TokenValue.TheVariants as value
 use Rattle.stores.specs.Idents.{name_in, ident_of}
 use Rattle.stores.specs.declared.span.Span.{Span}
-use Rattle.stores.specs.Tank.{Tank}
+use Rattle.stores.specs.Tank.{tank}
 use Rattle.books.specs.Book.{Defs}
 use Rattle.expansion.specs.Processor.{view, fresh}
 use Rattle.expansion.specs.Sane.{Holds}
-use Rattle.expansion.specs.Moved.{Moved}
 use Rattle.expansion.proofs.Motions.{none_moved, then_moved}
-use Rattle.conditions.specs.declared.if_parser.IfParser.{IfParser}
-use Rattle.conditions.specs.Looks.{passing, taken, carries, ahead, Looked, Took, Found, Carried, Tells, defines, Settled}
+use Rattle.conditions.specs.declared.evaluator.Evaluator.{Evaluator}
+use Rattle.conditions.specs.Looks.{passing, Looked, Took, Found, Carried, Tells, defines, Settled}
 
 -- nothing is in expansion, so nothing is asked of the book
 pub fresh_holds : (d : Defs) (gs : List Span) → Holds d (fresh gs)
@@ -29,32 +28,19 @@ fresh_holds d gs = (
   tt,
 )
 
-pub none_looked : (d : Defs) (p : IfParser) (t : Tank) → Looked d p t d p t
-none_looked d p t = record { moved = none_moved d (view p.processor) t; location = refl; zeros = refl; less = omega arith }
+pub none_looked : {F : Type 0} {defs : F → Defs} {s : Evaluator F} → Looked defs s s
+none_looked {F} {defs} {s} = record { moved = none_moved (defs s.lexer.now) (view s.parser.now.processor) (tank s.meter.now); location = refl; zeros = refl; less = omega arith; parser = refl; lexer = refl; meter = refl }
 
-pub then_looked : (d e f : Defs) (p q r : IfParser) (t u v : Tank) → Looked d p t e q u → Looked e q u f r v → Looked d p t f r v
-then_looked d e f p q r t u v a b = record {
-  moved = then_moved d e f (view p.processor) (view q.processor) (view r.processor) t u v a.moved b.moved;
+pub then_looked : {F : Type 0} {defs : F → Defs} {s t u : Evaluator F} → Looked defs s t → Looked defs t u → Looked defs s u
+then_looked {F} {defs} {s} {t} {u} a b = record {
+  moved = then_moved (defs s.lexer.now) (defs t.lexer.now) (defs u.lexer.now) (view s.parser.now.processor) (view t.parser.now.processor) (view u.parser.now.processor) (tank s.meter.now) (tank t.meter.now) (tank u.meter.now) a.moved b.moved;
   location = b.location ∙ a.location;
   zeros = b.zeros ∙ a.zeros;
   less = omega (arith, a.less, b.less);
+  parser = b.parser ∙ a.parser;
+  lexer = b.lexer ∙ a.lexer;
+  meter = b.meter ∙ a.meter;
 }
-
--- the processor moves, and the parser else stays as it is
-pub moved_looked : (d e : Defs) (p q : IfParser) (t u : Tank) → q.carry ≡ p.carry → q.location ≡ p.location → q.parsing_if ≡ p.parsing_if → Moved d (view p.processor) t e (view q.processor) u → Looked d p t e q u
-moved_looked d e p q t u c l z m = record {
-  moved = m;
-  location = l;
-  zeros = z;
-  less = let same = ap carries c in omega (arith, same, m.went.moves, m.went.budget);
-}
-
--- the carried token is taken
-pub take_looked : (d : Defs) (p : IfParser) (t : Tank) → Looked d p t d (taken p) t
-take_looked d p t = record { moved = none_moved d (view p.processor) t; location = refl; zeros = refl; less = omega arith }
-
-pub take_less : (o : Option Token) (x : Token) (t : Tank) → o ≡ Some x → ahead None t < ahead o t
-take_less o x t e = let one = ap carries e in omega (arith, one)
 
 pub carried_is : (o : Option Token) (x : Token) → o ≡ Some x → Carried o (Ok (Some x))
 carried_is (Some y) x e = cc
@@ -113,6 +99,3 @@ later_took (Err f) l m n e h = tt
 pub less_took : {X : Type 0} (r : Result X Fault) (m n : ℕ) → n < m → Took r m n
 less_took (Ok x) m n h = h
 less_took (Err f) m n h = tt
-
-pub taken_looked : (d : Defs) (p q : IfParser) (t : Tank) → q ≡ taken p → Looked d p t d q t
-taken_looked d p q t e = subst (λ (x : IfParser). Looked d p t d x t) (sym e) (take_looked d p t)

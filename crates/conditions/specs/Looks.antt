@@ -1,8 +1,9 @@
 -- What a look answers, and what it leaves of the parser, the feed and the meter.
 -- located l a: an operator's answer, its error put at l
 -- passing b x: what a name that is no macro stands for; taken p: the parser with no token carried
--- carries o: how many tokens are carried; ahead o t: no more tokens than this can still be taken
--- Looked d p t e q u: from the book d, the parser p and the meter t to e, q and u: what Moved says, the directive's word and kind stay, and `ahead` does not grow
+-- carries o: how many tokens are carried; ahead o t: no more tokens than this can still be taken; remains s: the same of an evaluator
+-- Ready defs s: the invariant of the macros in expansion, of the parser in s under the book of its feed
+-- Looked defs s t: from s to t: what Moved says, the directive's word and kind stay, `remains` does not grow, and the same loans are held
 -- Took r m n: where r is an answer, what was ahead has fallen from m to n; Found r m n: the same where r is a token
 -- Carried o r: a carried token is the answer; Spent r: only spent moves are raised; found_in r: what a look found; Holding r o: o is the answer
 -- Ended l r: only spent moves and the end of the line are raised; Tells d r: an answer says whether some name is in force in d
@@ -17,12 +18,14 @@ use Rattle.tokens.specs.declared.fault.Layer.TheVariants.{Conditions}
 use Rattle.tokens.specs.declared.fault.PreprocessorError.{PreprocessorError}
 use Rattle.tokens.specs.declared.fault.PreprocessorError.TheVariants.{UnexpectedEndOfInput}
 use Rattle.tokens.specs.Faults.{number, raised, unexpected}
-use Rattle.stores.specs.Tank.{Tank}
+use Rattle.stores.specs.Tank.{Tank, tank}
 use Rattle.stores.specs.Idents.{ident_of}
 use Rattle.books.specs.Book.{Defs, find}
 use Rattle.expansion.specs.Processor.{view}
 use Rattle.expansion.specs.Moved.{Moved}
+use Rattle.expansion.specs.Sane.{Holds}
 use Rattle.conditions.specs.declared.if_parser.IfParser.{IfParser}
+use Rattle.conditions.specs.declared.evaluator.Evaluator.{Evaluator}
 use Rattle.operators.specs.declared.Level.{Level}
 use Rattle.operators.specs.Calc.{operator_level, flag}
 
@@ -45,11 +48,20 @@ carries None = 0
 abbrev pub ahead : Option Token → Tank → ℕ
 ahead o t = (t.budget - t.moves) + carries o
 
-pub record Looked (d : Defs) (p : IfParser) (t : Tank) (e : Defs) (q : IfParser) (u : Tank) : Type 0 where
-  pub moved : Moved d (view p.processor) t e (view q.processor) u
-  pub location : q.location ≡ p.location
-  pub zeros : q.parsing_if ≡ p.parsing_if
-  pub less : ahead q.carry u ≤ ahead p.carry t
+abbrev pub remains : {F : Type 0} → Evaluator F → ℕ
+remains s = ahead s.parser.now.carry (tank s.meter.now)
+
+abbrev pub Ready : {F : Type 0} → (F → Defs) → Evaluator F → Type 0
+Ready defs s = Holds (defs s.lexer.now) (view s.parser.now.processor)
+
+pub record Looked {F : Type 0} (defs : F → Defs) (s t : Evaluator F) : Type 0 where
+  pub moved : Moved (defs s.lexer.now) (view s.parser.now.processor) (tank s.meter.now) (defs t.lexer.now) (view t.parser.now.processor) (tank t.meter.now)
+  pub location : t.parser.now.location ≡ s.parser.now.location
+  pub zeros : t.parser.now.parsing_if ≡ s.parser.now.parsing_if
+  pub less : remains t ≤ remains s
+  pub parser : t.parser.ghost_name ≡ s.parser.ghost_name
+  pub lexer : t.lexer.ghost_name ≡ s.lexer.ghost_name
+  pub meter : t.meter.ghost_name ≡ s.meter.ghost_name
 
 abbrev pub Took : {X : Type 0} → Result X Fault → ℕ → ℕ → Type 0
 Took (Ok x) m n = n < m

@@ -1,14 +1,10 @@
 // An atom, a unary operator and the ten binary levels; `depth` counts the parentheses open and the unary operators that lack their operand.
 ghost use Rattle.std.specs.Prelude.{◌≡◌, ℕ, ◌<◌, ◌≤◌};
-ghost use Rattle.stores.specs.Tank.{tank};
-ghost use Rattle.expansion.specs.Processor.{view};
-ghost use Rattle.expansion.specs.Sane.{Holds};
-ghost use Rattle.conditions.specs.Looks.{ahead, Looked, Took};
+ghost use Rattle.conditions.specs.Looks.{remains, Ready, Looked, Took};
 
-use crate::if_parser::IfParser;
+use crate::evaluator::Evaluator;
 use books::Feed;
 use operators::{Level, sign_of};
-use stores::meter::Meter;
 use tokens::fault::{Fault, Layer, PreprocessorError};
 use tokens::punct::Punct;
 use tokens::token::TokenValue;
@@ -16,30 +12,27 @@ use tokens::token::TokenValue;
 // At most this many parentheses and unary operators are open.
 pub const DEPTH: u32 = 64;
 
-impl IfParser {
+#[tactic(auto, using(crate::proofs::Looking::none_looked, crate::proofs::Looking::then_looked))]
+impl<'a, F: Feed> Evaluator<'a, F> {
     // A condition as a whole.
-    pub fn evaluate_expression<F: Feed>(
-        &mut self,
-        lexer: &mut F,
-        meter: &mut Meter,
-    ) -> Result<i64, Fault>
-        requires { Holds (F.Book.defs lexer.old) (view self.old.processor) }
-        ensures looked { Looked (F.Book.defs lexer.old) self.old (tank meter.old) (F.Book.defs lexer.new) self.new (tank meter.new) }
-        ensures took { Took result (ahead self.old.carry (tank meter.old)) (ahead self.new.carry (tank meter.new)) }
+    pub fn evaluate_expression(&mut self) -> Result<i64, Fault>
+        requires { Ready F.Book.defs self.old }
+        ensures looked { Looked F.Book.defs self.old self.new }
+        ensures took { Took result (remains self.old) (remains self.new) }
     {
-        self.logical_or(lexer, meter, 0)
+        self.logical_or(0)
     }
 
     #[cycle(levels)]
-    fn atom<F: Feed>(&mut self, lexer: &mut F, meter: &mut Meter, depth: u32) -> Result<i64, Fault>
-        requires { Holds (F.Book.defs lexer.old) (view self.old.processor) }
-        ensures looked { Looked (F.Book.defs lexer.old) self.old (tank meter.old) (F.Book.defs lexer.new) self.new (tank meter.new) }
-        ensures took { Took result (ahead self.old.carry (tank meter.old)) (ahead self.new.carry (tank meter.new)) }
+    fn atom(&mut self, depth: u32) -> Result<i64, Fault>
+        requires { Ready F.Book.defs self.old }
+        ensures looked { Looked F.Book.defs self.old self.new }
+        ensures took { Took result (remains self.old) (remains self.new) }
     {
-        let x = self.expect_next(lexer, meter)?;
+        let x = self.expect_next()?;
         match x.value {
             // every other name has become a number
-            TokenValue::Ident(_) => self.handle_defined(lexer, meter),
+            TokenValue::Ident(_) => self.handle_defined(),
             TokenValue::Integer(int) => Ok(int.value.cast_signed()),
             TokenValue::Punct(Punct::LeftParen) => {
                 if depth >= DEPTH {
@@ -49,8 +42,8 @@ impl IfParser {
                         Layer::Conditions,
                     ));
                 }
-                let v = self.logical_or(lexer, meter, depth + 1)?;
-                self.close(lexer, meter)?;
+                let v = self.logical_or(depth + 1)?;
+                self.close()?;
                 Ok(v)
             }
             _ => Err(Fault::unexpected(x, Layer::Conditions)),
@@ -58,14 +51,14 @@ impl IfParser {
     }
 
     #[cycle(levels)]
-    fn unary<F: Feed>(&mut self, lexer: &mut F, meter: &mut Meter, depth: u32) -> Result<i64, Fault>
-        requires { Holds (F.Book.defs lexer.old) (view self.old.processor) }
-        ensures looked { Looked (F.Book.defs lexer.old) self.old (tank meter.old) (F.Book.defs lexer.new) self.new (tank meter.new) }
-        ensures took { Took result (ahead self.old.carry (tank meter.old)) (ahead self.new.carry (tank meter.new)) }
+    fn unary(&mut self, depth: u32) -> Result<i64, Fault>
+        requires { Ready F.Book.defs self.old }
+        ensures looked { Looked F.Book.defs self.old self.new }
+        ensures took { Took result (remains self.old) (remains self.new) }
     {
-        let x = self.expect_peek(lexer, meter)?;
+        let x = self.expect_peek()?;
         let Some(sign) = sign_of(x.value) else {
-            return self.atom(lexer, meter, depth);
+            return self.atom(depth);
         };
         self.take();
         if depth >= DEPTH {
@@ -75,191 +68,146 @@ impl IfParser {
                 Layer::Conditions,
             ));
         }
-        let v = self.unary(lexer, meter, depth + 1)?;
-        self.apply_sign(sign, v)
+        let v = self.unary(depth + 1)?;
+        self.parser.apply_sign(sign, v)
     }
 
     #[cycle(levels)]
-    fn multiplicative<F: Feed>(
-        &mut self,
-        lexer: &mut F,
-        meter: &mut Meter,
-        depth: u32,
-    ) -> Result<i64, Fault>
-        requires { Holds (F.Book.defs lexer.old) (view self.old.processor) }
-        ensures looked { Looked (F.Book.defs lexer.old) self.old (tank meter.old) (F.Book.defs lexer.new) self.new (tank meter.new) }
-        ensures took { Took result (ahead self.old.carry (tank meter.old)) (ahead self.new.carry (tank meter.new)) }
+    fn multiplicative(&mut self, depth: u32) -> Result<i64, Fault>
+        requires { Ready F.Book.defs self.old }
+        ensures looked { Looked F.Book.defs self.old self.new }
+        ensures took { Took result (remains self.old) (remains self.new) }
     {
-        let mut left = self.unary(lexer, meter, depth)?;
-        while let Some(op) = self.take_op(Level::Multiplicative, lexer, meter)? {
-            let right = self.unary(lexer, meter, depth)?;
-            left = self.apply(op, left, right)?;
+        let mut left = self.unary(depth)?;
+        while let Some(op) = self.take_op(Level::Multiplicative)? {
+            let right = self.unary(depth)?;
+            left = self.parser.apply(op, left, right)?;
         }
         Ok(left)
     }
 
     #[cycle(levels)]
-    fn additive<F: Feed>(
-        &mut self,
-        lexer: &mut F,
-        meter: &mut Meter,
-        depth: u32,
-    ) -> Result<i64, Fault>
-        requires { Holds (F.Book.defs lexer.old) (view self.old.processor) }
-        ensures looked { Looked (F.Book.defs lexer.old) self.old (tank meter.old) (F.Book.defs lexer.new) self.new (tank meter.new) }
-        ensures took { Took result (ahead self.old.carry (tank meter.old)) (ahead self.new.carry (tank meter.new)) }
+    fn additive(&mut self, depth: u32) -> Result<i64, Fault>
+        requires { Ready F.Book.defs self.old }
+        ensures looked { Looked F.Book.defs self.old self.new }
+        ensures took { Took result (remains self.old) (remains self.new) }
     {
-        let mut left = self.multiplicative(lexer, meter, depth)?;
-        while let Some(op) = self.take_op(Level::Additive, lexer, meter)? {
-            let right = self.multiplicative(lexer, meter, depth)?;
-            left = self.apply(op, left, right)?;
+        let mut left = self.multiplicative(depth)?;
+        while let Some(op) = self.take_op(Level::Additive)? {
+            let right = self.multiplicative(depth)?;
+            left = self.parser.apply(op, left, right)?;
         }
         Ok(left)
     }
 
     #[cycle(levels)]
-    fn shift<F: Feed>(&mut self, lexer: &mut F, meter: &mut Meter, depth: u32) -> Result<i64, Fault>
-        requires { Holds (F.Book.defs lexer.old) (view self.old.processor) }
-        ensures looked { Looked (F.Book.defs lexer.old) self.old (tank meter.old) (F.Book.defs lexer.new) self.new (tank meter.new) }
-        ensures took { Took result (ahead self.old.carry (tank meter.old)) (ahead self.new.carry (tank meter.new)) }
+    fn shift(&mut self, depth: u32) -> Result<i64, Fault>
+        requires { Ready F.Book.defs self.old }
+        ensures looked { Looked F.Book.defs self.old self.new }
+        ensures took { Took result (remains self.old) (remains self.new) }
     {
-        let mut left = self.additive(lexer, meter, depth)?;
-        while let Some(op) = self.take_op(Level::Shift, lexer, meter)? {
-            let right = self.additive(lexer, meter, depth)?;
-            left = self.apply(op, left, right)?;
+        let mut left = self.additive(depth)?;
+        while let Some(op) = self.take_op(Level::Shift)? {
+            let right = self.additive(depth)?;
+            left = self.parser.apply(op, left, right)?;
         }
         Ok(left)
     }
 
     #[cycle(levels)]
-    fn comparative<F: Feed>(
-        &mut self,
-        lexer: &mut F,
-        meter: &mut Meter,
-        depth: u32,
-    ) -> Result<i64, Fault>
-        requires { Holds (F.Book.defs lexer.old) (view self.old.processor) }
-        ensures looked { Looked (F.Book.defs lexer.old) self.old (tank meter.old) (F.Book.defs lexer.new) self.new (tank meter.new) }
-        ensures took { Took result (ahead self.old.carry (tank meter.old)) (ahead self.new.carry (tank meter.new)) }
+    fn comparative(&mut self, depth: u32) -> Result<i64, Fault>
+        requires { Ready F.Book.defs self.old }
+        ensures looked { Looked F.Book.defs self.old self.new }
+        ensures took { Took result (remains self.old) (remains self.new) }
     {
-        let mut left = self.shift(lexer, meter, depth)?;
-        while let Some(op) = self.take_op(Level::Comparative, lexer, meter)? {
-            let right = self.shift(lexer, meter, depth)?;
-            left = self.apply(op, left, right)?;
+        let mut left = self.shift(depth)?;
+        while let Some(op) = self.take_op(Level::Comparative)? {
+            let right = self.shift(depth)?;
+            left = self.parser.apply(op, left, right)?;
         }
         Ok(left)
     }
 
     #[cycle(levels)]
-    fn equality<F: Feed>(
-        &mut self,
-        lexer: &mut F,
-        meter: &mut Meter,
-        depth: u32,
-    ) -> Result<i64, Fault>
-        requires { Holds (F.Book.defs lexer.old) (view self.old.processor) }
-        ensures looked { Looked (F.Book.defs lexer.old) self.old (tank meter.old) (F.Book.defs lexer.new) self.new (tank meter.new) }
-        ensures took { Took result (ahead self.old.carry (tank meter.old)) (ahead self.new.carry (tank meter.new)) }
+    fn equality(&mut self, depth: u32) -> Result<i64, Fault>
+        requires { Ready F.Book.defs self.old }
+        ensures looked { Looked F.Book.defs self.old self.new }
+        ensures took { Took result (remains self.old) (remains self.new) }
     {
-        let mut left = self.comparative(lexer, meter, depth)?;
-        while let Some(op) = self.take_op(Level::Equality, lexer, meter)? {
-            let right = self.comparative(lexer, meter, depth)?;
-            left = self.apply(op, left, right)?;
+        let mut left = self.comparative(depth)?;
+        while let Some(op) = self.take_op(Level::Equality)? {
+            let right = self.comparative(depth)?;
+            left = self.parser.apply(op, left, right)?;
         }
         Ok(left)
     }
 
     #[cycle(levels)]
-    fn bit_and<F: Feed>(
-        &mut self,
-        lexer: &mut F,
-        meter: &mut Meter,
-        depth: u32,
-    ) -> Result<i64, Fault>
-        requires { Holds (F.Book.defs lexer.old) (view self.old.processor) }
-        ensures looked { Looked (F.Book.defs lexer.old) self.old (tank meter.old) (F.Book.defs lexer.new) self.new (tank meter.new) }
-        ensures took { Took result (ahead self.old.carry (tank meter.old)) (ahead self.new.carry (tank meter.new)) }
+    fn bit_and(&mut self, depth: u32) -> Result<i64, Fault>
+        requires { Ready F.Book.defs self.old }
+        ensures looked { Looked F.Book.defs self.old self.new }
+        ensures took { Took result (remains self.old) (remains self.new) }
     {
-        let mut left = self.equality(lexer, meter, depth)?;
-        while let Some(op) = self.take_op(Level::BitAnd, lexer, meter)? {
-            let right = self.equality(lexer, meter, depth)?;
-            left = self.apply(op, left, right)?;
+        let mut left = self.equality(depth)?;
+        while let Some(op) = self.take_op(Level::BitAnd)? {
+            let right = self.equality(depth)?;
+            left = self.parser.apply(op, left, right)?;
         }
         Ok(left)
     }
 
     #[cycle(levels)]
-    fn bit_xor<F: Feed>(
-        &mut self,
-        lexer: &mut F,
-        meter: &mut Meter,
-        depth: u32,
-    ) -> Result<i64, Fault>
-        requires { Holds (F.Book.defs lexer.old) (view self.old.processor) }
-        ensures looked { Looked (F.Book.defs lexer.old) self.old (tank meter.old) (F.Book.defs lexer.new) self.new (tank meter.new) }
-        ensures took { Took result (ahead self.old.carry (tank meter.old)) (ahead self.new.carry (tank meter.new)) }
+    fn bit_xor(&mut self, depth: u32) -> Result<i64, Fault>
+        requires { Ready F.Book.defs self.old }
+        ensures looked { Looked F.Book.defs self.old self.new }
+        ensures took { Took result (remains self.old) (remains self.new) }
     {
-        let mut left = self.bit_and(lexer, meter, depth)?;
-        while let Some(op) = self.take_op(Level::BitXor, lexer, meter)? {
-            let right = self.bit_and(lexer, meter, depth)?;
-            left = self.apply(op, left, right)?;
+        let mut left = self.bit_and(depth)?;
+        while let Some(op) = self.take_op(Level::BitXor)? {
+            let right = self.bit_and(depth)?;
+            left = self.parser.apply(op, left, right)?;
         }
         Ok(left)
     }
 
     #[cycle(levels)]
-    fn bit_or<F: Feed>(
-        &mut self,
-        lexer: &mut F,
-        meter: &mut Meter,
-        depth: u32,
-    ) -> Result<i64, Fault>
-        requires { Holds (F.Book.defs lexer.old) (view self.old.processor) }
-        ensures looked { Looked (F.Book.defs lexer.old) self.old (tank meter.old) (F.Book.defs lexer.new) self.new (tank meter.new) }
-        ensures took { Took result (ahead self.old.carry (tank meter.old)) (ahead self.new.carry (tank meter.new)) }
+    fn bit_or(&mut self, depth: u32) -> Result<i64, Fault>
+        requires { Ready F.Book.defs self.old }
+        ensures looked { Looked F.Book.defs self.old self.new }
+        ensures took { Took result (remains self.old) (remains self.new) }
     {
-        let mut left = self.bit_xor(lexer, meter, depth)?;
-        while let Some(op) = self.take_op(Level::BitOr, lexer, meter)? {
-            let right = self.bit_xor(lexer, meter, depth)?;
-            left = self.apply(op, left, right)?;
+        let mut left = self.bit_xor(depth)?;
+        while let Some(op) = self.take_op(Level::BitOr)? {
+            let right = self.bit_xor(depth)?;
+            left = self.parser.apply(op, left, right)?;
         }
         Ok(left)
     }
 
     #[cycle(levels)]
-    fn logical_and<F: Feed>(
-        &mut self,
-        lexer: &mut F,
-        meter: &mut Meter,
-        depth: u32,
-    ) -> Result<i64, Fault>
-        requires { Holds (F.Book.defs lexer.old) (view self.old.processor) }
-        ensures looked { Looked (F.Book.defs lexer.old) self.old (tank meter.old) (F.Book.defs lexer.new) self.new (tank meter.new) }
-        ensures took { Took result (ahead self.old.carry (tank meter.old)) (ahead self.new.carry (tank meter.new)) }
+    fn logical_and(&mut self, depth: u32) -> Result<i64, Fault>
+        requires { Ready F.Book.defs self.old }
+        ensures looked { Looked F.Book.defs self.old self.new }
+        ensures took { Took result (remains self.old) (remains self.new) }
     {
-        let mut left = self.bit_or(lexer, meter, depth)?;
-        while let Some(op) = self.take_op(Level::LogicalAnd, lexer, meter)? {
-            let right = self.bit_or(lexer, meter, depth)?;
-            left = self.apply(op, left, right)?;
+        let mut left = self.bit_or(depth)?;
+        while let Some(op) = self.take_op(Level::LogicalAnd)? {
+            let right = self.bit_or(depth)?;
+            left = self.parser.apply(op, left, right)?;
         }
         Ok(left)
     }
 
     #[cycle(levels)]
-    fn logical_or<F: Feed>(
-        &mut self,
-        lexer: &mut F,
-        meter: &mut Meter,
-        depth: u32,
-    ) -> Result<i64, Fault>
-        requires { Holds (F.Book.defs lexer.old) (view self.old.processor) }
-        ensures looked { Looked (F.Book.defs lexer.old) self.old (tank meter.old) (F.Book.defs lexer.new) self.new (tank meter.new) }
-        ensures took { Took result (ahead self.old.carry (tank meter.old)) (ahead self.new.carry (tank meter.new)) }
+    fn logical_or(&mut self, depth: u32) -> Result<i64, Fault>
+        requires { Ready F.Book.defs self.old }
+        ensures looked { Looked F.Book.defs self.old self.new }
+        ensures took { Took result (remains self.old) (remains self.new) }
     {
-        let mut left = self.logical_and(lexer, meter, depth)?;
-        while let Some(op) = self.take_op(Level::LogicalOr, lexer, meter)? {
-            let right = self.logical_and(lexer, meter, depth)?;
-            left = self.apply(op, left, right)?;
+        let mut left = self.logical_and(depth)?;
+        while let Some(op) = self.take_op(Level::LogicalOr)? {
+            let right = self.logical_and(depth)?;
+            left = self.parser.apply(op, left, right)?;
         }
         Ok(left)
     }

@@ -1,0 +1,10 @@
+// A condition that is worked out: the parser, the feed that it reads and the meter that it spends.
+use crate::if_parser::IfParser;
+use stores::meter::Meter;
+
+#[derive(Drop)]
+pub struct Evaluator<'a, F> {
+    pub parser: &'a mut IfParser,
+    pub lexer: &'a mut F,
+    pub meter: &'a mut Meter,
+}
