@@ -2,7 +2,7 @@
 -- located l a: an operator's answer, its error put at l
 -- passing b x: what a name that is no macro stands for; taken p: the parser with no token carried
 -- carries o: how many tokens are carried; ahead o t: no more tokens than this can still be taken; remains s: the same of an evaluator
--- Ready defs s: the invariant of the macros in expansion, of the parser in s under the book of its feed
+-- Ready defs s: the invariant of the macros in expansion holds of the parser, under the book of the feed
 -- Looked defs s t: from s to t: what Moved says, the directive's word and kind stay, `remains` does not grow, and the same loans are held
 -- Took r m n: where r is an answer, what was ahead has fallen from m to n; Found r m n: the same where r is a token
 -- Carried o r: a carried token is the answer; Spent r: only spent moves are raised; found_in r: what a look found; Holding r o: o is the answer

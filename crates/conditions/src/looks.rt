@@ -87,6 +87,7 @@ impl<'a, F: Feed> Evaluator<'a, F> {
         }
     }
 
+    // A name passes, or its macro is started.
     fn start_define_invocation(&mut self, x: Token, name: u32) -> Step<Token>
         requires { Ready F.Book.defs self.old }
         ensures looked { Looked F.Book.defs self.old self.new }
@@ -113,10 +114,7 @@ impl<'a, F: Feed> Evaluator<'a, F> {
                 return Ok(Some(x));
             }
             match self.start_define_invocation(x, name) {
-                Ok(_) => {
-                    let passed = self.parser.pass(x)?;
-                    return Ok(Some(passed));
-                }
+                Ok(_) => return self.parser.pass(x).map(Some),
                 Err(StepExit::Continue) => {}
                 Err(StepExit::Finished) => return Ok(None),
                 Err(StepExit::Error(f)) => return Err(f),
