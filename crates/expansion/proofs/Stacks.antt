@@ -1,32 +1,27 @@
 -- The invariant under each change of the uses, of the waiting calls and of the book.
-use Rattle.std.proofs.Common.{◌≡◌, ℕ, ◌+◌, ◌-◌, ◌<◌, ◌≤◌, Bool, true, false, cond, eqb, List, [], ◌∷◌, ◌++◌, length, get_or, take, Some, sym, refl, ap, ◌∙◌, subst, inl, inr, ⊎_elim, arith, eq-eqb}
-use borrow.Author.Tests.{both_ways}
+use Rattle.std.proofs.Common.{◌≡◌, ℕ, ◌+◌, ◌-◌, ◌<◌, ◌≤◌, true, false, eqb, List, [], ◌∷◌, ◌++◌, length, get_or, take, Some, sym, ap, ◌∙◌, subst, inl, inr, ⊎_elim, arith}
 use Rattle.std.proofs.lemmas.List.{length-set, length-take, get_or-set_same, get_or-set_other, get_or-take, length_push, get_or_push, get_or_append_left}
+use Rattle.std.proofs.lemmas.Grind.{common_steps}
 use Rattle.std.proofs.lemmas.List.Folds.{list_any_at}
-use Rattle.std.proofs.lemmas.Bool.{cases_eq}
 use Rattle.std.proofs.str.Laws.{order}
 use Rattle.expansion.specs.declared.invocation.DefineInvocation.{DefineInvocation}
 use Rattle.expansion.specs.declared.invocation.Callee.{Callee}
 use Rattle.expansion.specs.declared.invocation.Pending.{Pending}
 use Rattle.expansion.specs.declared.invocation.Phase.{Phase}
 use Rattle.expansion.specs.declared.invocation.Phase.TheVariants.{Plain, Held, Met, Gather}
-use Rattle.books.specs.Book.{Entry, Defs, mean, hit, seek, has, InForce, Grown, Kept}
+use Rattle.books.specs.Book.{Entry, Defs, mean, seek, has, InForce, Grown, Kept}
 use Rattle.expansion.specs.Processor.{Proc, blank, idle, top, lowest}
 use Rattle.expansion.specs.Phases.{barred, topped}
 use Rattle.expansion.specs.Sane.{Bears, Free, FreeOf, Sane, Waits, Holds}
 
 -- a name that is not barred is that of no use
 pub unbarred : (us : List DefineInvocation) (n : ℕ) → barred us n ≡ false → (i : ℕ) → i < length us → (get_or us i blank).name ≡ n → ⊥
-unbarred us n b i h e = both_ways _ b (list_any_at (λ u. eqb u.name n) us i blank h (eq-eqb _ n e))
+unbarred us n b i h e = grind (arith, common_steps, list_any_at (λ u. eqb u.name n) us i blank h)
 
 -- a name that is found is in force
 pub found_has : (es : List Entry) (i n h : ℕ) → seek es i n ≡ Some h → has es n ≡ true
 found_has [] i n h e = let z : ◌≡◌ {A = ℕ} 0 1 = cc in absurd (omega arith)
-found_has (x ∷ xs) i n h e = both (found_has xs (i + 1) n h) (hit x n) e
-  where
-    both : (seek xs (i + 1) n ≡ Some h → has xs n ≡ true) → (b : Bool) → cond b (Some i) (seek xs (i + 1) n) ≡ Some h → cond b true (has xs n) ≡ true
-    both w true k = refl
-    both w false k = w k
+found_has (x ∷ xs) i n h e = grind (arith, common_steps, found_has xs (i + 1) n h)
 
 -- each use of the second list stands at the same place of the first, but for how far it is read
 pub record Covers (us vs : List DefineInvocation) : Type 0 where
@@ -43,12 +38,7 @@ covers_top us u e f =
     }
   where
     at : (g : DefineInvocation → ℕ) → g u ≡ g (top us) → (i : ℕ) → i < length us → g (get_or (topped us u) i blank) ≡ g (get_or us i blank)
-    at g w i l =
-        ⊎_elim
-        (λ s. let z : get_or (topped us u) i blank ≡ u = subst (λ k. get_or (topped us u) k blank ≡ u) (sym s) (get_or-set_same us (length us - 1) u blank (omega arith)) in
-        ap g z ∙ w ∙ ap (λ k. g (get_or us k blank)) (sym s))
-        (λ s. ap g (get_or-set_other us (length us - 1) i u blank s))
-        (cases_eq i (length us - 1))
+    at g w i l = grind (arith, common_steps, get_or-set_same us (length us - 1) u blank, get_or-set_other us (length us - 1) i u blank)
 
 pub covers_take : (us : List DefineInvocation) (k : ℕ) → Covers us (take k us)
 covers_take us k =
