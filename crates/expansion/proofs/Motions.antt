@@ -15,7 +15,7 @@ use Rattle.expansion.specs.declared.invocation.Pending.{Pending}
 use Rattle.expansion.specs.Processor.{Proc, Answer, fresh, idle, top, base, expanding}
 use Rattle.expansion.specs.Phases.{Made, Read, topped, in_arg, at_param, by_word, in_body, in_use, in_input, begun, meeting}
 use Rattle.expansion.specs.Sane.{Sane, Holds}
-use Rattle.expansion.specs.Moved.{Moved, PaysFor, Pays}
+use Rattle.expansion.specs.Moved.{Moved, Pays}
 use Rattle.expansion.proofs.Stacks.{Covers, covers_top, covers_take, covered, covered_waits, clear}
 use Rattle.expansion.proofs.Meets.{begun_holds, meeting_holds}
 use Rattle.expansion.proofs.Fronts.{same, meeting_went, begun_went, still, went_on}
@@ -110,13 +110,6 @@ paid (Some (Ok x)) t u l = l
 paid (Some (Err Continue)) t u l = l
 paid (Some (Err Finished)) t u l = l
 paid (Some (Err (Error f))) t u l = tt
-
--- a later end has paid as much
-pub pays_later : (a : Answer) (t u v : Tank) → t.moves ≤ u.moves → PaysFor a u v → PaysFor a t v
-pays_later (Ok x) t u v l h = omega arith
-pays_later (Err Continue) t u v l h = omega arith
-pays_later (Err Finished) t u v l h = omega arith
-pays_later (Err (Error f)) t u v l h = tt
 
 -- nothing is in expansion yet
 pub fresh_holds : (d : Defs) (p : Proc) (gs : List Span) → p ≡ fresh gs → Holds d p

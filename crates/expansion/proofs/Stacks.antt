@@ -97,15 +97,6 @@ module _ (d e : Defs) (us : List DefineInvocation) (z : length us ≡ 0) where
     rising = λ i j lt l. absurd (omega arith);
   }
 
-  clear_of : Grown d e → (q : Callee) → FreeOf d us q → FreeOf e us q
-  clear_of g q f = record { bears = grown_bears d e _ _ g f.bears; free = λ i l s. absurd (omega arith); force = inr z }
-
-  pub clear_waits : Grown d e → (f : Phase) → Waits d us f → Waits e us f
-  clear_waits g Plain w = w
-  clear_waits g (Held a) w = w
-  clear_waits g (Met q) w = clear_of g q w
-  clear_waits g (Gather q) w = clear_of g q.callee w
-
 -- the book changes by a host definition, at any moment: handles keep their meaning, names in force stay in force
 module _ (d e : Defs) (us : List DefineInvocation) (g : Grown d e) (k : Kept d e) where
   host_free : (t h n : ℕ) → Free d us t h n → Free e us t h n
