@@ -1,8 +1,8 @@
 -- The names in expansion number at most the definitions in force plus one.
-use Rattle.std.proofs.Common.{◌≡◌, ℕ, suc, ◌+◌, ◌<◌, ◌≤◌, Bool, true, false, cond, eqb, List, [], ◌∷◌, ◌||◌, map, length, get_or, sym, refl, ap, ◌∙◌, arith, eq-eqb, ne_eqb, eqb-true}
-use Rattle.std.proofs.lemmas.Bool.{cond_both}
+use Rattle.std.proofs.Common.{◌≡◌, ℕ, suc, ◌<◌, ◌≤◌, true, cond, eqb, List, [], ◌∷◌, map, length, get_or, sym, refl, ◌∙◌, arith, ne_eqb}
+use Rattle.std.proofs.lemmas.Bool.Decides.{nat_tests}
+use Rattle.std.proofs.lemmas.Grind.{common_steps}
 use Rattle.std.proofs.lemmas.Cmp.{nat_eq_equiv}
-use Rattle.std.proofs.Math.Bool.{or-true}
 use Rattle.std.proofs.lemmas.List.{get_or-map, length-map}
 use Rattle.std.proofs.lemmas.Map.Keys.{IsDistinct-from_apart}
 use Rattle.std.proofs.lemmas.Map.Made.{length-le_from_is_member}
@@ -24,28 +24,19 @@ forced (e ∷ es) = cond e.live (e.def.name ∷ forced es) (forced es)
 
 length_forced : (es : List Entry) → length (forced es) ≡ live es
 length_forced [] = refl
-length_forced (e ∷ es) = both e.live (length_forced es)
-  where
-    both : (b : Bool) → length (forced es) ≡ live es → length (cond b (e.def.name ∷ forced es) (forced es)) ≡ cond b 1 0 + live es
-    both true h = omega arith
-    both false h = omega arith
+length_forced (e ∷ es) = grind (arith, common_steps, length_forced es)
 
 has_forced : (es : List Entry) (n : ℕ) → has es n ≡ true → is_member eqb (forced es) n ≡ true
 has_forced [] n h = h
-has_forced (e ∷ es) n h = both e.live (eqb e.def.name n) refl h (has_forced es n)
-  where
-    both : (b c : Bool) → eqb e.def.name n ≡ c → cond (cond b c false) true (has es n) ≡ true → (has es n ≡ true → is_member eqb (forced es) n ≡ true) → is_member eqb (cond b (e.def.name ∷ forced es) (forced es)) n ≡ true
-    both true true k g f = ap (λ t. t || is_member eqb (forced es) n) (eq-eqb n _ (sym (eqb-true _ n k)))
-    both true false k g f = ap (λ t. eqb n e.def.name || t) (f g) ∙ or-true _
-    both false c k g f = f g
+has_forced (e ∷ es) n h = grind (arith, common_steps, nat_tests, has_forced es n)
 
 known : (es : List Entry) (us : List DefineInvocation) (n : ℕ) → ((i : ℕ) → i < length us → has es (get_or us i blank).name ≡ true) → is_member eqb (names us) n ≡ true → has es n ≡ true
 known es [] n f h = absurd cc
-known es (u ∷ us) n f h = both (eqb n u.name) refl h (known es us n (λ i l. f (suc i) (omega arith)))
-  where
-    both : (b : Bool) → eqb n u.name ≡ b → (b || is_member eqb (names us) n) ≡ true → (is_member eqb (names us) n ≡ true → has es n ≡ true) → has es n ≡ true
-    both true e k g = ap (has es) (eqb-true n u.name e) ∙ f 0 (omega arith)
-    both false e k g = g k
+known es (u ∷ us) n f h =
+    let z : 0 < length (u ∷ us) = omega arith in
+    let k = f 0 z in
+    let r : is_member eqb (names us) n ≡ true → has es n ≡ true = known es us n (λ i l. f (suc i) (omega arith)) in
+    grind (arith, common_steps, nat_tests, k, r)
 
 apart : (us : List DefineInvocation) → ((i j : ℕ) → i < j → j < length us → (get_or us i blank).name ≡ (get_or us j blank).name → ⊥) → IsDistinct eqb (names us)
 apart us f = IsDistinct-from_apart eqb (names us) (λ i j d lt l.
@@ -62,7 +53,7 @@ few es (u ∷ us) a h =
 
 pub live_length : (es : List Entry) → live es ≤ length es
 live_length [] = omega arith
-live_length (e ∷ es) = cond_both e.live 1 0 (λ k. k + live es ≤ suc (length es)) (λ _. omega (arith, live_length es)) (λ _. omega (arith, live_length es))
+live_length (e ∷ es) = grind (arith, common_steps, live_length es)
 
 pub sane_few : (d : Defs) (us : List DefineInvocation) (bs : List Pending) → Sane d us bs → length us ≤ suc (live d.table)
 sane_few d us bs s = few d.table us s.apart s.force

@@ -1,9 +1,8 @@
 -- A processor only adds to the stores: what it found there is a front of what it leaves.
-use Rattle.std.proofs.Common.{◌≡◌, ℕ, ◌+◌, ◌-◌, ◌<◌, ◌≤◌, eqb, ltb, [], ◌∷◌, ◌++◌, length, get_or, take, drop, Some, None, Ok, Err, Option, sym, refl, ap, ◌∙◌, subst, ⊎_elim, arith}
+use Rattle.std.proofs.Common.{◌≡◌, ℕ, ◌+◌, ◌-◌, ◌<◌, ◌≤◌, eqb, ltb, [], ◌∷◌, ◌++◌, length, get_or, take, drop, Some, None, Ok, Err, Option, sym, refl, ap, ◌∙◌, subst, arith}
 use Rattle.std.proofs.lemmas.Bool.{cond_both}
 use borrow.Author.Tests.{eqb-false}
-use Rattle.std.proofs.lemmas.List.{length-take, length_push, get_or_push, get_or_append_left, get_or-take, take_all, take-take, take_at, take-append-le}
-use Rattle.std.proofs.str.Laws.{order}
+use Rattle.std.proofs.lemmas.List.{length-take, length_push, get_or-take, take_all, take-take, take_at, take-append-le}
 use Rattle.tokens.specs.declared.token.Token.{Token}
 use Rattle.tokens.specs.declared.location.Location.{Location}
 use Rattle.tokens.specs.declared.fault.StepExit.TheVariants.{Error, Continue, Finished}
@@ -20,6 +19,7 @@ use Rattle.expansion.specs.Delimiters.{delimits}
 use Rattle.expansion.specs.Processor.{Proc, Answer, phased, lined, idle, lowest, expanding, named}
 use Rattle.expansion.specs.Phases.{Out, passed, barred, calling, found, begun, reached, split, parted, waiting, descended, bare, counted, closed, storing, gathered, resumed, filled, returned, finished, by_name, holding, after_name, spent, meeting}
 use Rattle.expansion.specs.Sane.{Above, Fronts, Went}
+use Rattle.expansion.proofs.Stacks.{pushed}
 
 pub same : (b : ℕ) (t : Tank) → Fronts b t t
 same b t = record { working = take_all (length t.working) t.working (omega arith); building = refl }
@@ -83,12 +83,7 @@ module _ (b : ℕ) (t : Tank) where
       (λ _. none _ p p h refl refl)
     where
       deeper : (j : ℕ) → 0 < j → j < length (p.below ++ waiting p c i ∷ []) → b ≤ (get_or (p.below ++ waiting p c i ∷ []) j idle).level.start
-      deeper j o l =
-          ⊎_elim
-          (λ inside. subst (λ x. b ≤ x.level.start) (sym (get_or_append_left p.below (waiting p c i ∷ []) idle j inside)) (h.deep j o inside))
-          (λ last. let k : length p.below ≡ j = omega (arith, length_push p.below (waiting p c i)) in
-          subst (λ x. b ≤ x.level.start) (sym (get_or_push p.below (waiting p c i) idle j k)) (h.here (omega arith)))
-          (order j (length p.below))
+      deeper j o l = pushed p.below (waiting p c i) idle (λ x. b ≤ x.level.start) j l (h.deep j o) (λ k. h.here (omega arith))
 
   counted_stays : (p : Proc) (c : Call) (a : ℕ) → Above b p t → Stays b t (counted p t c a)
   counted_stays p c a h =

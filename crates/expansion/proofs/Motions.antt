@@ -1,7 +1,7 @@
 -- A move keeps the invariant, changes no handle and takes back nothing.
-use Rattle.std.proofs.Common.{◌≡◌, ℕ, suc, ◌+◌, ◌-◌, ◌<◌, ◌≤◌, Bool, true, cond, eqb, List, [], map, length, get_or, Some, None, Ok, Err, Option, sym, refl, ap, ◌∙◌, subst, ⊎_elim, arith, ltb-true, eqb-true}
+use Rattle.std.proofs.Common.{◌≡◌, ℕ, suc, ◌+◌, ◌-◌, ◌<◌, ◌≤◌, Bool, true, cond, List, [], map, length, get_or, Some, None, Ok, Err, Option, sym, refl, ap, ◌∙◌, subst, arith, ltb-true}
 use Rattle.std.proofs.lemmas.List.{length-set, length-take}
-use Rattle.std.proofs.lemmas.Bool.{cond_both, cases_eq}
+use Rattle.std.proofs.lemmas.Grind.{common_steps}
 use Rattle.std.specs.List.{slice_get}
 use Rattle.tokens.specs.declared.token.Token.{Token}
 use Rattle.tokens.specs.declared.fault.StepExit.TheVariants.{Error, Continue, Finished}
@@ -12,10 +12,10 @@ use Rattle.stores.specs.Tank.{Tank, spending, read}
 use Rattle.books.specs.Book.{Defs, mean, Grown}
 use Rattle.expansion.specs.declared.invocation.DefineInvocation.{DefineInvocation}
 use Rattle.expansion.specs.declared.invocation.Pending.{Pending}
-use Rattle.expansion.specs.Processor.{Proc, Answer, fresh, idle, top, lowest, base, expanding}
+use Rattle.expansion.specs.Processor.{Proc, Answer, fresh, idle, top, base, expanding}
 use Rattle.expansion.specs.Phases.{Made, Read, topped, in_arg, at_param, by_word, in_body, in_use, in_input, begun, meeting}
 use Rattle.expansion.specs.Sane.{Sane, Holds}
-use Rattle.expansion.specs.Moved.{Moved, PaysFor, Pays}
+use Rattle.expansion.specs.Moved.{Moved, Pays}
 use Rattle.expansion.proofs.Stacks.{Covers, covers_top, covers_take, covered, covered_waits, clear}
 use Rattle.expansion.proofs.Meets.{begun_holds, meeting_holds}
 use Rattle.expansion.proofs.Fronts.{same, meeting_went, begun_went, still, went_on}
@@ -50,9 +50,7 @@ use_read None d ws us gs = by (slice_get (mean d (top us).handle).body (top us).
 
 -- all that waits ends below the macros of the current level
 ends_below : (d : Defs) (us : List DefineInvocation) (bs : List Pending) → Sane d us bs → (i : ℕ) → i < length bs → (get_or bs i idle).end ≤ base bs
-ends_below d us bs s i l =
-    cond_both (eqb (length bs) 0) 0 (lowest bs).end (λ n. (get_or bs i idle).end ≤ n) (λ b. absurd (omega (arith, eqb-true _ 0 b)))
-    (λ _. ⊎_elim (λ e. let a = ap (λ k. (get_or bs k idle).end) e in omega (arith, a)) (λ n. s.rising i (length bs - 1) (omega arith) (omega arith)) (cases_eq i (length bs - 1)))
+ends_below d us bs s i l = grind (arith, common_steps, s.rising i (length bs - 1))
 
 grown_same : (d : Defs) → Grown d d
 grown_same d h l = (l, refl)
@@ -106,22 +104,12 @@ charged_moved d p t u b e f = subst (λ x. Moved d p t d p x) (sym (f ∙ ap (λ
   grown = grown_same d;
 })
 
-pub charged_more : (t u : Tank) (b : Bool) → b ≡ true → u ≡ cond b (spending t (t.moves + 1)) t → t.moves < u.moves
-charged_more t u b e f = let z = ap (λ x. x.moves) (f ∙ ap (λ c. cond c (spending t (t.moves + 1)) t) e) in omega (arith, z)
-
 pub paid : (a : Option Answer) (t u : Tank) → t.moves < u.moves → Pays a t u
 paid None t u l = l
 paid (Some (Ok x)) t u l = l
 paid (Some (Err Continue)) t u l = l
 paid (Some (Err Finished)) t u l = l
 paid (Some (Err (Error f))) t u l = tt
-
--- a later end has paid as much
-pub pays_later : (a : Answer) (t u v : Tank) → t.moves ≤ u.moves → PaysFor a u v → PaysFor a t v
-pays_later (Ok x) t u v l h = omega arith
-pays_later (Err Continue) t u v l h = omega arith
-pays_later (Err Finished) t u v l h = omega arith
-pays_later (Err (Error f)) t u v l h = tt
 
 -- nothing is in expansion yet
 pub fresh_holds : (d : Defs) (p : Proc) (gs : List Span) → p ≡ fresh gs → Holds d p

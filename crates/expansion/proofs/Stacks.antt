@@ -1,32 +1,27 @@
 -- The invariant under each change of the uses, of the waiting calls and of the book.
-use Rattle.std.proofs.Common.{◌≡◌, ℕ, ◌+◌, ◌-◌, ◌<◌, ◌≤◌, Bool, true, false, cond, eqb, List, [], ◌∷◌, ◌++◌, length, get_or, take, Some, sym, refl, ap, ◌∙◌, subst, inl, inr, ⊎_elim, arith, eq-eqb}
-use borrow.Author.Tests.{both_ways}
+use Rattle.std.proofs.Common.{◌≡◌, ℕ, ◌+◌, ◌-◌, ◌<◌, ◌≤◌, true, false, eqb, List, [], ◌∷◌, ◌++◌, length, get_or, take, Some, sym, ap, ◌∙◌, subst, inl, inr, ⊎_elim, arith}
 use Rattle.std.proofs.lemmas.List.{length-set, length-take, get_or-set_same, get_or-set_other, get_or-take, length_push, get_or_push, get_or_append_left}
+use Rattle.std.proofs.lemmas.Grind.{common_steps}
 use Rattle.std.proofs.lemmas.List.Folds.{list_any_at}
-use Rattle.std.proofs.lemmas.Bool.{cases_eq}
 use Rattle.std.proofs.str.Laws.{order}
 use Rattle.expansion.specs.declared.invocation.DefineInvocation.{DefineInvocation}
 use Rattle.expansion.specs.declared.invocation.Callee.{Callee}
 use Rattle.expansion.specs.declared.invocation.Pending.{Pending}
 use Rattle.expansion.specs.declared.invocation.Phase.{Phase}
 use Rattle.expansion.specs.declared.invocation.Phase.TheVariants.{Plain, Held, Met, Gather}
-use Rattle.books.specs.Book.{Entry, Defs, mean, hit, seek, has, InForce, Grown, Kept}
+use Rattle.books.specs.Book.{Entry, Defs, mean, seek, has, InForce, Grown, Kept}
 use Rattle.expansion.specs.Processor.{Proc, blank, idle, top, lowest}
 use Rattle.expansion.specs.Phases.{barred, topped}
 use Rattle.expansion.specs.Sane.{Bears, Free, FreeOf, Sane, Waits, Holds}
 
 -- a name that is not barred is that of no use
 pub unbarred : (us : List DefineInvocation) (n : ℕ) → barred us n ≡ false → (i : ℕ) → i < length us → (get_or us i blank).name ≡ n → ⊥
-unbarred us n b i h e = both_ways _ b (list_any_at (λ u. eqb u.name n) us i blank h (eq-eqb _ n e))
+unbarred us n b i h e = grind (arith, common_steps, list_any_at (λ u. eqb u.name n) us i blank h)
 
 -- a name that is found is in force
 pub found_has : (es : List Entry) (i n h : ℕ) → seek es i n ≡ Some h → has es n ≡ true
 found_has [] i n h e = let z : ◌≡◌ {A = ℕ} 0 1 = cc in absurd (omega arith)
-found_has (x ∷ xs) i n h e = both (found_has xs (i + 1) n h) (hit x n) e
-  where
-    both : (seek xs (i + 1) n ≡ Some h → has xs n ≡ true) → (b : Bool) → cond b (Some i) (seek xs (i + 1) n) ≡ Some h → cond b true (has xs n) ≡ true
-    both w true k = refl
-    both w false k = w k
+found_has (x ∷ xs) i n h e = grind (arith, common_steps, found_has xs (i + 1) n h)
 
 -- each use of the second list stands at the same place of the first, but for how far it is read
 pub record Covers (us vs : List DefineInvocation) : Type 0 where
@@ -43,12 +38,7 @@ covers_top us u e f =
     }
   where
     at : (g : DefineInvocation → ℕ) → g u ≡ g (top us) → (i : ℕ) → i < length us → g (get_or (topped us u) i blank) ≡ g (get_or us i blank)
-    at g w i l =
-        ⊎_elim
-        (λ s. let z : get_or (topped us u) i blank ≡ u = subst (λ k. get_or (topped us u) k blank ≡ u) (sym s) (get_or-set_same us (length us - 1) u blank (omega arith)) in
-        ap g z ∙ w ∙ ap (λ k. g (get_or us k blank)) (sym s))
-        (λ s. ap g (get_or-set_other us (length us - 1) i u blank s))
-        (cases_eq i (length us - 1))
+    at g w i l = grind (arith, common_steps, get_or-set_same us (length us - 1) u blank, get_or-set_other us (length us - 1) i u blank)
 
 pub covers_take : (us : List DefineInvocation) (k : ℕ) → Covers us (take k us)
 covers_take us k =
@@ -107,15 +97,6 @@ module _ (d e : Defs) (us : List DefineInvocation) (z : length us ≡ 0) where
     rising = λ i j lt l. absurd (omega arith);
   }
 
-  clear_of : Grown d e → (q : Callee) → FreeOf d us q → FreeOf e us q
-  clear_of g q f = record { bears = grown_bears d e _ _ g f.bears; free = λ i l s. absurd (omega arith); force = inr z }
-
-  pub clear_waits : Grown d e → (f : Phase) → Waits d us f → Waits e us f
-  clear_waits g Plain w = w
-  clear_waits g (Held a) w = w
-  clear_waits g (Met q) w = clear_of g q w
-  clear_waits g (Gather q) w = clear_of g q.callee w
-
 -- the book changes by a host definition, at any moment: handles keep their meaning, names in force stay in force
 module _ (d e : Defs) (us : List DefineInvocation) (g : Grown d e) (k : Kept d e) where
   host_free : (t h n : ℕ) → Free d us t h n → Free e us t h n
@@ -140,70 +121,49 @@ module _ (d e : Defs) (us : List DefineInvocation) (g : Grown d e) (k : Kept d e
 pub host_holds : (d e : Defs) (p : Proc) → Grown d e → Kept d e → Holds d p → Holds e p
 host_holds d e p g k h = (host_sane d e p.uses g k p.below h.0, host_waits d e p.uses g k p.phase h.1)
 
+-- what holds of each element, and of the one that is pushed
+pub pushed : {X : Type 0} (xs : List X) (x d : X) (P : X → Type 0) (i : ℕ) → i < length (xs ++ x ∷ []) → (i < length xs → P (get_or xs i d)) → (i ≡ length xs → P x) → P (get_or (xs ++ x ∷ []) i d)
+pushed xs x d P i l f g =
+    ⊎_elim (λ inside. subst P (sym (get_or_append_left xs (x ∷ []) d i inside)) (f inside))
+    (λ last. let k : length xs ≡ i = omega (arith, length_push xs x) in subst P (sym (get_or_push xs x d i k)) (g (sym k)))
+    (order i (length xs))
+
 -- a call that may be entered is entered
 pub entered_sane : (d : Defs) (us : List DefineInvocation) (bs : List Pending) (u : DefineInvocation) → Sane d us bs → Free d us (length us) u.handle u.name → Sane d (us ++ u ∷ []) bs
 entered_sane d us bs u s f =
     record {
       apart = λ i j lt l e.
-          ⊎_elim
-          (λ inside. s.apart i j lt inside (sym (ap (λ x. x.name) (old i (omega arith))) ∙ e ∙ ap (λ x. x.name) (old j inside)))
-          (λ last. let k : length us ≡ j = omega (arith, length_push us u) in f.free i (omega arith) (sym (ap (λ x. x.name) (old i (omega arith))) ∙ e ∙ ap (λ x. x.name) (get_or_push us u blank j k)))
-          (order j (length us));
-      bears = λ i l.
-          ⊎_elim
-          (λ inside. subst (λ x. Bears d x.handle x.name) (sym (old i inside)) (s.bears i inside))
-          (λ last. let k : length us ≡ i = omega (arith, length_push us u) in subst (λ x. Bears d x.handle x.name) (sym (get_or_push us u blank i k)) f.bears)
-          (order i (length us));
-      force = λ i o l.
-          ⊎_elim
-          (λ inside. subst (λ x. InForce d x.name) (sym (old i inside)) (s.force i o inside))
-          (λ last. let k : length us ≡ i = omega (arith, length_push us u) in
-          subst (λ x. InForce d x.name) (sym (get_or_push us u blank i k)) (⊎_elim (λ x. x) (λ x. absurd (omega arith)) f.force))
-          (order i (length us));
+          pushed us u blank (λ x. (get_or us i blank).name ≡ x.name → ⊥) j l (s.apart i j lt) (λ k. f.free i (omega arith))
+          (old i (omega (arith, length_push us u)) ∙ e);
+      bears = λ i l. pushed us u blank (λ x. Bears d x.handle x.name) i l (s.bears i) (λ _. f.bears);
+      force = λ i o l. pushed us u blank (λ x. InForce d x.name) i l (s.force i o) (λ k. ⊎_elim (λ x. x) (λ x. absurd (omega arith)) f.force);
       calls = λ i l. let c = s.calls i l in record {
         bears = c.bears;
-        free = λ j w e. c.free j w (sym (ap (λ x. x.name) (old j (omega (arith, w, s.within i l)))) ∙ e);
+        free = λ j w e. c.free j w (old j (omega (arith, w, s.within i l)) ∙ e);
         force = c.force;
       };
       within = λ i l. omega (arith, s.within i l, length_push us u);
       rising = s.rising;
     }
   where
-    old : (i : ℕ) → i < length us → get_or (us ++ u ∷ []) i blank ≡ get_or us i blank
-    old i l = get_or_append_left us (u ∷ []) blank i l
+    old : (i : ℕ) → i < length us → (get_or us i blank).name ≡ (get_or (us ++ u ∷ []) i blank).name
+    old i l = ap (λ x. x.name) (sym (get_or_append_left us (u ∷ []) blank i l))
 
 -- a call waits above all uses while its argument is expanded
 pub waiting_sane : (d : Defs) (us : List DefineInvocation) (bs : List Pending) (q : Pending) → q.end ≡ length us → Sane d us bs → FreeOf d us q.call.callee → Sane d us (bs ++ q ∷ [])
-waiting_sane d us bs q t s f =
-    record {
-      apart = s.apart;
-      bears = s.bears;
-      force = s.force;
-      calls = λ i l.
-          ⊎_elim
-          (λ inside. subst (λ x. Free d us x.end x.call.callee.handle x.call.callee.name) (sym (old i inside)) (s.calls i inside))
-          (λ last. let k : length bs ≡ i = omega (arith, length_push bs q) in
-          subst (λ x. Free d us x.end x.call.callee.handle x.call.callee.name) (sym (get_or_push bs q idle i k))
-          (subst (λ e. Free d us e q.call.callee.handle q.call.callee.name) (sym t) f))
-          (order i (length bs));
-      within = λ i l.
-          ⊎_elim
-          (λ inside. subst (λ x. x.end ≤ length us) (sym (old i inside)) (s.within i inside))
-          (λ last. let k : length bs ≡ i = omega (arith, length_push bs q) in subst (λ x. x.end ≤ length us) (sym (get_or_push bs q idle i k)) (omega arith))
-          (order i (length bs));
-      rising = λ i j lt l.
-          ⊎_elim
-          (λ inside. let a = ap (λ x. x.end) (old i (omega arith)) in let b = ap (λ x. x.end) (old j inside) in omega (arith, a, b, s.rising i j lt inside))
-          (λ last.
-          let k : length bs ≡ j = omega (arith, length_push bs q) in
-          let a = ap (λ x. x.end) (old i (omega arith)) in
-          let b = ap (λ x. x.end) (get_or_push bs q idle j k) in
-          omega (arith, a, b, s.within i (omega arith), t))
-          (order j (length bs));
-    }
-  where
-    old : (i : ℕ) → i < length bs → get_or (bs ++ q ∷ []) i idle ≡ get_or bs i idle
-    old i l = get_or_append_left bs (q ∷ []) idle i l
+waiting_sane d us bs q t s f = record {
+  apart = s.apart;
+  bears = s.bears;
+  force = s.force;
+  calls = λ i l.
+      pushed bs q idle (λ x. Free d us x.end x.call.callee.handle x.call.callee.name) i l (s.calls i)
+      (λ _. subst (λ e. Free d us e q.call.callee.handle q.call.callee.name) (sym t) f);
+  within = λ i l. pushed bs q idle (λ x. x.end ≤ length us) i l (s.within i) (λ _. omega arith);
+  rising = λ i j lt l.
+      let a = ap (λ x. x.end) (get_or_append_left bs (q ∷ []) idle i (omega (arith, length_push bs q))) in
+      pushed bs q idle (λ x. (get_or (bs ++ q ∷ []) i idle).end ≤ x.end) j l (λ inside. omega (arith, a, s.rising i j lt inside))
+      (λ k. omega (arith, a, s.within i (omega arith), t));
+}
 
 -- the lowest waiting call goes on: all above it is left
 module _ (d : Defs) (us : List DefineInvocation) (bs : List Pending) (s : Sane d us bs) (o : 0 < length bs) where

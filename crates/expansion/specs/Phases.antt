@@ -1,4 +1,5 @@
 -- A move of the processor, and what its phase makes of the step that it meets.
+-- on_arg, on_word: what one macro makes of a token of its argument, or of its body
 -- in_arg, at_param, by_word, in_body, in_use: the top macro is read on; in_input: the argument that a level expands
 -- entered, passed, begun, descended, counted, closed, storing, gathered, finished, holding: what each case does
 -- meeting f a d p t: the phase f meets the step a: no answer yet, or the answer of the step, with what is left of the processor and the meter

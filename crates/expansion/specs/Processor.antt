@@ -1,6 +1,6 @@
 -- Proc: the plain data of a processor; view p: what a processor holds
 -- phased, used, fed, lined, argued: the same with another phase, stack, input, line, store of arguments
--- blank, idle: no macro, no waiting level; top us, lowest bs: the last of each
+-- blank, resting, idle: no macro, a level that reads nothing, no waiting level; top us, lowest bs: the last of each
 -- base bs: where the current level's own macros begin; fault e l: the answer with a fault of expansion
 use Rattle.std.specs.Prelude.{ℕ, ◌-◌, Bool, cond, List, [], length, None, Err, vec_items, Result, ◌==◌, nat_lt, slice_index_or}
 use Rattle.tokens.specs.declared.location.Location.{Location}
@@ -60,7 +60,6 @@ blank = record { name = 0; handle = 0; at = 0; reading = None }
 abbrev pub no_call : Call
 no_call = record { callee = record { name = 0; handle = 0; location = origin }; paren = origin; last = origin; nesting = 0; from = 0; count = 0 }
 
--- a level that reads nothing
 abbrev pub resting : Level
 resting = record { input = nowhere; start = 0; line = 0 }
 
