@@ -1,5 +1,5 @@
 -- A book has only the tokens below the mark.
-use Rattle.std.proofs.Common.{◌≡◌, ℕ, suc, ◌+◌, ◌-◌, ◌≤◌, List, [], ◌∷◌, ◌++◌, length, take, drop, sym, refl, ap, ◌∙◌, arith}
+use Rattle.std.proofs.Common.{◌≡◌, ℕ, suc, ◌+◌, ◌-◌, ◌≤◌, Bool, true, false, cond, List, [], ◌∷◌, ◌++◌, length, take, drop, sym, refl, ap, ◌∙◌, arith}
 use Rattle.std.proofs.lemmas.List.{drop-take, take-take, take-append-le, take_rest}
 use Rattle.tokens.specs.declared.token.Token.{Token}
 use Rattle.tokens.specs.declared.token.Part.{Part}
@@ -37,3 +37,8 @@ same_pushed k mark table x k' within h e =
 -- the part of all that lies past the mark
 pub past_mark : (k : List Token) (n mark : ℕ) → n ≡ length k → part_of k (record { start = mark; len = n - mark }) ≡ drop mark k
 past_mark k n mark e = ap (λ m. take (m - mark) (drop mark k)) e ∙ take_rest k mark
+
+-- the same where there may be no room
+pub same_kept : (kept : List Token) (mark : ℕ) (table : List Define) (x : Token) (b : Bool) (after : List Token) → Within mark table → mark ≤ length kept → after ≡ cond b (kept ++ x ∷ []) kept → shelf after table ≡ shelf kept table
+same_kept kept mark table x true after w l e = same_pushed kept mark table x after w l e
+same_kept kept mark table x false after w l e = ap (λ k. shelf k table) e

@@ -24,46 +24,55 @@ impl<S: Source> DirectiveProcessor<S> {
         }
     }
 
+    // The rest of the line passes as one token; its value is made of the kept tokens.
+    fn pass_line<F: FnOnce(&DirectiveProcessor<S>, Part) -> TokenValue>(
+        &mut self,
+        location: Location,
+        value: F,
+    ) -> Step<Token>
+        requires { F.IsAlwaysCallable value }
+        ensures defs { held self.new.defines ≡ held self.old.defines }
+        ensures segments { self.new.blocks ≡ self.old.blocks }
+    {
+        let tokens = self.keep_line()?;
+        Ok(Token {
+            value: value(self, tokens),
+            location,
+        })
+    }
+
     pub fn parse_version_directive(&mut self, location: Location) -> Step<Token>
         ensures defs { held self.new.defines ≡ held self.old.defines }
         ensures segments { self.new.blocks ≡ self.old.blocks }
     {
         let is_first_directive = !(self.had_directive || self.had_non_directive_token);
-        let tokens = self.keep_line()?;
-        let has_comments_before = self.reader.source.had_comments();
-        Ok(Token {
-            value: TokenValue::Version(Version {
+        self.pass_line(
+            location,
+            |this, tokens| TokenValue::Version(Version {
                 tokens,
                 is_first_directive,
-                has_comments_before,
+                has_comments_before: this.reader.source.had_comments(),
             }),
-            location,
-        })
+        )
     }
 
     pub fn parse_extension_directive(&mut self, location: Location) -> Step<Token>
         ensures defs { held self.new.defines ≡ held self.old.defines }
         ensures segments { self.new.blocks ≡ self.old.blocks }
     {
-        let has_non_directive_before = self.had_non_directive_token;
-        let tokens = self.keep_line()?;
-        Ok(Token {
-            value: TokenValue::Extension(Extension {
-                tokens,
-                has_non_directive_before,
-            }),
+        self.pass_line(
             location,
-        })
+            |this, tokens| TokenValue::Extension(Extension {
+                tokens,
+                has_non_directive_before: this.had_non_directive_token,
+            }),
+        )
     }
 
     pub fn parse_pragma_directive(&mut self, location: Location) -> Step<Token>
         ensures defs { held self.new.defines ≡ held self.old.defines }
         ensures segments { self.new.blocks ≡ self.old.blocks }
     {
-        let tokens = self.keep_line()?;
-        Ok(Token {
-            value: TokenValue::Pragma(Pragma { tokens }),
-            location,
-        })
+        self.pass_line(location, |_, tokens| TokenValue::Pragma(Pragma { tokens }))
     }
 }

@@ -2,31 +2,18 @@
 use names::table::Names;
 use std::io;
 use std::io::Write;
-use tokens::punct::spelling;
-use tokens::token::{Part, Token, TokenValue};
+use tokens::token::{Token, TokenValue};
 
-// A passed directive is its word and how many tokens it has.
-fn write_passed<W: Write>(word: &str, tokens: Part, out: &mut W) -> io::Result<()> {
-    let count = tokens.len;
-    write!(out, "{word} {count}")
-}
-
-// A value as GLSL spells it: names and punctuation as they are, integers in decimal, floats by their bits.
+// A name as it is, any other value as it is displayed.
 fn write_value<W: Write>(names: &Names, value: TokenValue, out: &mut W) -> io::Result<()> {
     match value {
         TokenValue::Ident(name) => out.write_all(names.bytes_of(name).unwrap_or(&[])),
-        TokenValue::Punct(p) => out.write_all(spelling(p)),
-        TokenValue::Integer(i) => {
-            let n = i.value;
-            write!(out, "{n}")
-        }
-        TokenValue::Float(f) => {
-            let bits = f.bits;
-            write!(out, "f{bits:08x}")
-        }
-        TokenValue::Version(v) => write_passed("version", v.tokens, out),
-        TokenValue::Extension(e) => write_passed("extension", e.tokens, out),
-        TokenValue::Pragma(p) => write_passed("pragma", p.tokens, out),
+        TokenValue::Punct(p) => write!(out, "{p}"),
+        TokenValue::Integer(i) => write!(out, "{i}"),
+        TokenValue::Float(f) => write!(out, "{f}"),
+        TokenValue::Version(v) => write!(out, "{v}"),
+        TokenValue::Extension(e) => write!(out, "{e}"),
+        TokenValue::Pragma(p) => write!(out, "{p}"),
     }
 }
 

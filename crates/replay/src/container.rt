@@ -14,12 +14,11 @@ pub(crate) struct Case<'a> {
 fn lengths(bytes: &[u8]) -> Option<(u16, u32, &[u8])>
     ensures { MatchOption result (length bytes.now < 6) (λ p. (p.0 ≡ two bytes.now 0) × (p.1 ≡ four bytes.now 2) × (p.2.now ≡ drop 6 bytes.now) × (length p.2.now + 6 ≡ length bytes.now)) }
 {
-    if bytes.len() < 6 {
+    let [a, b, c, d, e, f, rest @ ..] = bytes else {
         return None;
-    }
-    let name = u16::from_le_bytes([bytes[0], bytes[1]]);
-    let file = u32::from_le_bytes([bytes[2], bytes[3], bytes[4], bytes[5]]);
-    let (_, rest) = bytes.split_at(6);
+    };
+    let name = u16::from_le_bytes([*a, *b]);
+    let file = u32::from_le_bytes([*c, *d, *e, *f]);
     Some((name, file, rest))
 }
 
@@ -28,11 +27,7 @@ pub(crate) fn first_case(bytes: &[u8]) -> Option<Case<'_>>
     ensures { MatchOption result (length bytes.now < 6 + two bytes.now 0 + four bytes.now 2) (λ c. (length c.name.now ≡ two bytes.now 0) × (length c.file.now ≡ four bytes.now 2) × (drop 6 bytes.now ≡ c.name.now ++ (c.file.now ++ c.rest.now)) × (length c.rest.now < length bytes.now)) }
 {
     let (name_len, file_len, bodies) = lengths(bytes)?;
-    let (name_len, file_len) = (name_len as usize, file_len as usize);
-    if bodies.len() < name_len + file_len {
-        return None;
-    }
-    let (name, files) = bodies.split_at(name_len);
-    let (file, rest) = files.split_at(file_len);
+    let (name, files) = bodies.split_at_checked(name_len as usize)?;
+    let (file, rest) = files.split_at_checked(file_len as usize)?;
     Some(Case { name, file, rest })
 }

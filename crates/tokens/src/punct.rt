@@ -1,6 +1,8 @@
 // The punctuation of GLSL.
-ghost use Rattle.std.specs.Prelude.{◌≡◌};
+ghost use Rattle.std.specs.Prelude.{◌≡◌, Some};
 ghost use Rattle.tokens.specs.Puncts.{numbered, punct_known, spelled};
+
+use std::fmt;
 
 #[derive(Clone, Copy, PartialEq, Eq)]
 pub enum Punct {
@@ -129,54 +131,64 @@ impl TryFrom<u8> for Punct {
     }
 }
 
-pub fn spelling(p: Punct) -> &'static [u8]
-    ensures { result.now ≡ spelled p }
-{
-    match p {
-        Punct::AddAssign => b"+=",
-        Punct::SubAssign => b"-=",
-        Punct::MulAssign => b"*=",
-        Punct::DivAssign => b"/=",
-        Punct::ModAssign => b"%=",
-        Punct::LeftShiftAssign => b"<<=",
-        Punct::RightShiftAssign => b">>=",
-        Punct::AndAssign => b"&=",
-        Punct::XorAssign => b"^=",
-        Punct::OrAssign => b"|=",
-        Punct::Increment => b"++",
-        Punct::Decrement => b"--",
-        Punct::LogicalAnd => b"&&",
-        Punct::LogicalOr => b"||",
-        Punct::LogicalXor => b"^^",
-        Punct::LessEqual => b"<=",
-        Punct::GreaterEqual => b">=",
-        Punct::EqualEqual => b"==",
-        Punct::NotEqual => b"!=",
-        Punct::LeftShift => b"<<",
-        Punct::RightShift => b">>",
-        Punct::LeftBrace => b"{",
-        Punct::RightBrace => b"}",
-        Punct::LeftParen => b"(",
-        Punct::RightParen => b")",
-        Punct::LeftBracket => b"[",
-        Punct::RightBracket => b"]",
-        Punct::LeftAngle => b"<",
-        Punct::RightAngle => b">",
-        Punct::Semicolon => b";",
-        Punct::Comma => b",",
-        Punct::Colon => b":",
-        Punct::Dot => b".",
-        Punct::Equal => b"=",
-        Punct::Bang => b"!",
-        Punct::Minus => b"-",
-        Punct::Tilde => b"~",
-        Punct::Plus => b"+",
-        Punct::Star => b"*",
-        Punct::Slash => b"/",
-        Punct::Percent => b"%",
-        Punct::Pipe => b"|",
-        Punct::Caret => b"^",
-        Punct::Ampersand => b"&",
-        Punct::Question => b"?",
+impl Punct {
+    pub fn spelling(self) -> &'static str
+        ensures { result.now ≡ spelled self }
+    {
+        match self {
+            Punct::AddAssign => "+=",
+            Punct::SubAssign => "-=",
+            Punct::MulAssign => "*=",
+            Punct::DivAssign => "/=",
+            Punct::ModAssign => "%=",
+            Punct::LeftShiftAssign => "<<=",
+            Punct::RightShiftAssign => ">>=",
+            Punct::AndAssign => "&=",
+            Punct::XorAssign => "^=",
+            Punct::OrAssign => "|=",
+            Punct::Increment => "++",
+            Punct::Decrement => "--",
+            Punct::LogicalAnd => "&&",
+            Punct::LogicalOr => "||",
+            Punct::LogicalXor => "^^",
+            Punct::LessEqual => "<=",
+            Punct::GreaterEqual => ">=",
+            Punct::EqualEqual => "==",
+            Punct::NotEqual => "!=",
+            Punct::LeftShift => "<<",
+            Punct::RightShift => ">>",
+            Punct::LeftBrace => "{",
+            Punct::RightBrace => "}",
+            Punct::LeftParen => "(",
+            Punct::RightParen => ")",
+            Punct::LeftBracket => "[",
+            Punct::RightBracket => "]",
+            Punct::LeftAngle => "<",
+            Punct::RightAngle => ">",
+            Punct::Semicolon => ";",
+            Punct::Comma => ",",
+            Punct::Colon => ":",
+            Punct::Dot => ".",
+            Punct::Equal => "=",
+            Punct::Bang => "!",
+            Punct::Minus => "-",
+            Punct::Tilde => "~",
+            Punct::Plus => "+",
+            Punct::Star => "*",
+            Punct::Slash => "/",
+            Punct::Percent => "%",
+            Punct::Pipe => "|",
+            Punct::Caret => "^",
+            Punct::Ampersand => "&",
+            Punct::Question => "?",
+        }
+    }
+}
+
+impl fmt::Display for Punct {
+    ghost output = { λ p. Some (spelled p) };
+
+    fn fmt<W: fmt::Write>(&self, f: &mut fmt::Formatter<W>) -> fmt::Result {
+        f.write_str(self.spelling())
     }
 }

@@ -1,6 +1,10 @@
 // A token as the preprocessor answers it.
+ghost use Rattle.std.specs.Prelude.{Some};
+ghost use Rattle.tokens.specs.Texts.{integer_text, float_text, version_text, extension_text, pragma_text};
+
 use crate::location::Location;
 use crate::punct::Punct;
+use std::fmt;
 
 #[derive(Clone, Copy, PartialEq, Eq)]
 pub struct Integer {
@@ -57,4 +61,52 @@ pub enum TokenValue {
 pub struct Token {
     pub value: TokenValue,
     pub location: Location,
+}
+
+// An integer in decimal.
+impl fmt::Display for Integer {
+    ghost output = { λ i. Some (integer_text i) };
+
+    fn fmt<W: fmt::Write>(&self, f: &mut fmt::Formatter<W>) -> fmt::Result {
+        let value = self.value;
+        write!(f, "{value}")
+    }
+}
+
+// A float by its bits.
+impl fmt::Display for Float {
+    ghost output = { λ x. Some (float_text x) };
+
+    fn fmt<W: fmt::Write>(&self, f: &mut fmt::Formatter<W>) -> fmt::Result {
+        let bits = self.bits;
+        write!(f, "f{bits:08x}")
+    }
+}
+
+// A passed directive is its word and how many tokens it has.
+impl fmt::Display for Version {
+    ghost output = { λ v. Some (version_text v) };
+
+    fn fmt<W: fmt::Write>(&self, f: &mut fmt::Formatter<W>) -> fmt::Result {
+        let count = self.tokens.len;
+        write!(f, "version {count}")
+    }
+}
+
+impl fmt::Display for Extension {
+    ghost output = { λ e. Some (extension_text e) };
+
+    fn fmt<W: fmt::Write>(&self, f: &mut fmt::Formatter<W>) -> fmt::Result {
+        let count = self.tokens.len;
+        write!(f, "extension {count}")
+    }
+}
+
+impl fmt::Display for Pragma {
+    ghost output = { λ p. Some (pragma_text p) };
+
+    fn fmt<W: fmt::Write>(&self, f: &mut fmt::Formatter<W>) -> fmt::Result {
+        let count = self.tokens.len;
+        write!(f, "pragma {count}")
+    }
 }

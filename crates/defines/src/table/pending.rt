@@ -58,11 +58,8 @@ impl Defines {
         ensures mark { self.new.mark ≡ self.old.mark }
         ensures body { self.new.body ≡ self.old.body }
     {
-        if self.kept.len() >= MAX_KEPT {
-            return Err(PreprocessorError::KeptTokensFull);
-        }
-        self.kept.push_reserved(x);
-        Ok(())
+        let pushed = records::push(&mut self.kept, MAX_KEPT, x);
+        pushed.map_err(|_| PreprocessorError::KeptTokensFull)
     }
 
     // One more parameter, unless 32 tokens are there or the store is full. All that lies past the mark are then parameters.

@@ -1,17 +1,10 @@
-use Rattle.std.proofs.Common.{vec_items, refl, arith, rules}
-use Rattle.defines.proofs.Fronts.{same_pushed}
+use Rattle.std.proofs.Common.{vec_items, arith}
+use Rattle.defines.proofs.Fronts.{same_kept}
 use Rattle.defines.specs.Held.{held}
 use Rattle.defines.proofs.table.Defines.keep.Goals as goal
 
-pub returns : goal.returns
+pub returns-clause-defs : goal.returns-clause-defs
 unfolding held
-returns c =
+returns-clause-defs c =
     let s = c.args.self.now in
-    record {
-      value = search rules;
-      refused = tt;
-      defs = same_pushed (vec_items s.kept) s.mark (vec_items s.table) c.args.x _ s.within (omega (arith, s.ordered, s.inside, s.kept.ok.0)) c.push_reserved.ensures.items;
-      kept = c.push_reserved.ensures.items;
-      mark = refl;
-      body = refl;
-    }
+    same_kept (vec_items s.kept) s.mark (vec_items s.table) c.args.x _ _ s.within (omega (arith, s.ordered, s.inside, s.kept.ok.0)) c.push-pushed.ensures.items
