@@ -170,20 +170,12 @@ impl<S: Source> DirectiveProcessor<S> {
     {
         self.blocks.skipping = true;
         let Some(block) = self.blocks.top() else {
-            return Err(Fault::new(
-                PreprocessorError::ElifOutsideOfBlock,
-                directive_location,
-                Layer::Directives,
-            )
-            .into());
+            let error = PreprocessorError::ElifOutsideOfBlock;
+            return Err(Fault::new(error, directive_location, Layer::Directives).into());
         };
         if block.had_else {
-            return Err(Fault::new(
-                PreprocessorError::ElifAfterElse,
-                directive_location,
-                Layer::Directives,
-            )
-            .into());
+            let error = PreprocessorError::ElifAfterElse;
+            return Err(Fault::new(error, directive_location, Layer::Directives).into());
         }
         if block.outer_skipped || block.had_valid_segment {
             return self.reader.consume_until_newline();
@@ -206,20 +198,12 @@ impl<S: Source> DirectiveProcessor<S> {
     {
         self.reader.expect_newline(directive_location)?;
         let Some(block) = self.blocks.top() else {
-            return Err(Fault::new(
-                PreprocessorError::ElseOutsideOfBlock,
-                directive_location,
-                Layer::Directives,
-            )
-            .into());
+            let error = PreprocessorError::ElseOutsideOfBlock;
+            return Err(Fault::new(error, directive_location, Layer::Directives).into());
         };
         if block.had_else {
-            return Err(Fault::new(
-                PreprocessorError::MoreThanOneElse,
-                directive_location,
-                Layer::Directives,
-            )
-            .into());
+            let error = PreprocessorError::MoreThanOneElse;
+            return Err(Fault::new(error, directive_location, Layer::Directives).into());
         }
         let skipping = block.outer_skipped || block.had_valid_segment;
         self.blocks.change(
@@ -238,12 +222,8 @@ impl<S: Source> DirectiveProcessor<S> {
         ensures segments { OnOk result ((self.new.blocks.stack.items ≡ (end_on (latest self.old.blocks.stack.items) (self.old.blocks.stack.items)).0) × (self.new.blocks.skipping ≡ (end_on (latest self.old.blocks.stack.items) (self.old.blocks.stack.items)).1)) }
     {
         let Some(block) = self.blocks.close() else {
-            return Err(Fault::new(
-                PreprocessorError::EndifOutsideOfBlock,
-                directive_location,
-                Layer::Directives,
-            )
-            .into());
+            let error = PreprocessorError::EndifOutsideOfBlock;
+            return Err(Fault::new(error, directive_location, Layer::Directives).into());
         };
         self.blocks.skipping = block.outer_skipped;
         if block.outer_skipped {

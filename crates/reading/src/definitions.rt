@@ -45,12 +45,8 @@ impl<S: Source> Reader<S> {
                 LexerTokenValue::Punct(Punct::Comma) if !first_param => {
                     let (name, location) = self.expect_lexer_ident(token.location)?;
                     if defines.is_pending_parameter(name) {
-                        return Err(Fault::new(
-                            PreprocessorError::DuplicateParameter,
-                            location,
-                            Layer::Directives,
-                        )
-                        .into());
+                        let error = PreprocessorError::DuplicateParameter;
+                        return Err(Fault::new(error, location, Layer::Directives).into());
                     }
                     (name, location)
                 }

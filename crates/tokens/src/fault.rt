@@ -82,6 +82,7 @@ pub enum Refusal {
     BadFile = 41,
 }
 
+// One error carries a token, so these numbers are no discriminants.
 impl PreprocessorError {
     pub fn number(self) -> u32
         ensures { result ≡ number self }
