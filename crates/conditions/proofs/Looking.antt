@@ -20,3 +20,7 @@ then_looked {F} {defs} {s} {t} {u} a b = record {
   lexer = b.lexer ∙ a.lexer;
   meter = b.meter ∙ a.meter;
 }
+
+-- a level that has its left side, has gone some rounds, takes an operator and works out the right side
+pub round_looked : {F : Type 0} {defs : F → Defs} {s t u v w : Evaluator F} → Looked defs s t → Looked defs t u → Looked defs u v → Looked defs v w → Looked defs s w
+round_looked a b c d = then_looked (then_looked (then_looked a b) c) d
