@@ -1,5 +1,6 @@
 // The punctuation of GLSL.
-ghost use Rattle.std.specs.Prelude.{◌≡◌, Some};
+ghost use Rattle.std.specs.Prelude.{◌≡◌, Some, Decides};
+ghost use Rattle.tokens.specs.declared.punct.Punct.{Punct};
 ghost use Rattle.tokens.specs.Puncts.{numbered, punct_known, spelled};
 
 use std::fmt;
@@ -52,6 +53,11 @@ pub enum Punct {
     Ampersand,
     Question,
 }
+
+// Two puncts are equal exactly when they are the same.
+pub fn punct_equality_stands()
+    ensures { (a b : Punct) → Decides (⟦<Punct as PartialEq>⟧.eq a b) (a ≡ b) }
+{}
 
 // The place in the list above.
 impl From<Punct> for u8 {
