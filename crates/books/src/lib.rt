@@ -1,7 +1,7 @@
 // A book of definitions, and a book that can be read one step at a time.
 #![tactic(auto)]
 
-ghost use Rattle.std.specs.Prelude.{◌≡◌, ℕ, ◌+◌, ◌<◌, ◌≤◌, map, length};
+ghost use Rattle.std.specs.Prelude.{◌≡◌, ◌<◌, map, length};
 ghost use Rattle.std.specs.List.{slice_get};
 ghost use Rattle.stores.specs.Places.{place};
 ghost use Rattle.stores.specs.Idents.{ident_of};

@@ -19,6 +19,7 @@ pub struct IfLexer<'a, B> {
     pub book: &'a B,
 }
 
+// A feed is a book (a form of the project), so it hands the questions on.
 impl<'a, B: Book> Book for IfLexer<'a, B> {
     ghost defs = { λ l. B.Book.defs l.book.now };
 

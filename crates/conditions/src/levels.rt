@@ -1,6 +1,6 @@
-// An atom, a unary operator and the ten binary levels. `depth` counts the parentheses open and the unary operators that lack their operand;
+// An atom, a unary operator and the ten binary levels, a function each, as is a form of the project. `depth` counts the parentheses open and the unary operators that lack their operand;
 // it goes by value, so that no way out has to set it back.
-ghost use Rattle.std.specs.Prelude.{◌≡◌, ℕ, ◌<◌, ◌≤◌};
+ghost use Rattle.std.specs.Prelude.{◌<◌};
 ghost use Rattle.conditions.specs.Looks.{remains, Ready, Looked, Took};
 
 use crate::evaluator::Evaluator;

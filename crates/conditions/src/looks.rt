@@ -1,5 +1,5 @@
 // Looks: the next token with macros started, and the takings that must find one.
-ghost use Rattle.std.specs.Prelude.{◌≡◌, ℕ, ◌<◌, ◌≤◌, is_some, None};
+ghost use Rattle.std.specs.Prelude.{◌≡◌, ◌<◌, is_some, None};
 ghost use Rattle.tokens.specs.Faults.{raised};
 ghost use Rattle.conditions.specs.Looks.{located, passing, taken, remains, Ready, Looked, Took, Found, Carried, Spent, Ended, Tells, found_in, Holding, Named, Settled, OfLevel};
 ghost use Rattle.books.specs.Book.{find};

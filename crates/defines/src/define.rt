@@ -1,7 +1,7 @@
 // A definition: its parameters and its body are parts of the kept tokens.
 use tokens::token::Part;
 
-#[derive(Clone, Copy)]
+#[derive(Clone, Copy, Default)]
 pub struct Define {
     pub name: u32,
     pub function_like: bool,

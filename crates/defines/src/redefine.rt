@@ -4,7 +4,7 @@ ghost use Rattle.defines.specs.Values.{values_agree, token_lists_agree};
 
 use tokens::token::{Token, TokenValue};
 
-// No derived equality: a passed directive, which never stands in a body, equals nothing.
+// By hand, as a derived equality would call two passed directives equal. None stands in a body.
 pub fn same_value(a: TokenValue, b: TokenValue) -> bool
     ensures { result ≡ values_agree a b }
 {

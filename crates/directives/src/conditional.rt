@@ -17,7 +17,7 @@ use sources::source::Source;
 use stores::guard::Guard;
 use stores::meter::Meter;
 use stores::span::Span;
-use tokens::fault::{Fault, Layer, PreprocessorError, Step};
+use tokens::fault::{Fault, Layer, PreprocessorError, Step, StepExit};
 use tokens::location::Location;
 
 // A second expression may follow the line of `#line`; its value is of no account.
@@ -29,6 +29,17 @@ fn pass_second_expression<F: Feed>(evaluator: &mut Evaluator<'_, F>) -> Result<(
         let _ = evaluator.evaluate_expression()?;
     }
     Ok(())
+}
+
+// Nothing may be left over behind an expression.
+fn expect_end<F: Feed>(evaluator: &mut Evaluator<'_, F>) -> Result<(), Fault>
+    requires { Ready F.Book.defs evaluator.old }
+    ensures { Looked F.Book.defs evaluator.old evaluator.new }
+{
+    match evaluator.peek()? {
+        Some(token) => Err(Fault::unexpected(token, Layer::Directives)),
+        None => Ok(()),
+    }
 }
 
 impl<S: Source> DirectiveProcessor<S> {
@@ -55,10 +66,8 @@ impl<S: Source> DirectiveProcessor<S> {
             meter,
         };
         let value = evaluator.evaluate_expression()?;
-        match evaluator.peek()? {
-            Some(token) => Err(Fault::unexpected(token, Layer::Directives)),
-            None => Ok(value != 0),
-        }
+        expect_end(&mut evaluator)?;
+        Ok(value != 0)
     }
 
     // The rest of the line as a condition; what it took of the working store is given back.
@@ -70,8 +79,8 @@ impl<S: Source> DirectiveProcessor<S> {
         let mark = meter.mark();
         let guard = Guard { meter, mark };
         let line = self.reader.gather_until_newline(guard.meter)?;
-        let holds = self.evaluate_if_expression(location, line, guard.meter)?;
-        Ok(holds)
+        let holds = self.evaluate_if_expression(location, line, guard.meter);
+        holds.map_err(StepExit::Error)
     }
 
     // Whether the name behind `#ifdef` or `#ifndef` is in force.
@@ -106,28 +115,21 @@ impl<S: Source> DirectiveProcessor<S> {
         ensures stores { Spends (tank meter.old) (tank meter.new) }
         ensures segments { OnOk result ((self.new.blocks.stack.items ≡ if_on self.old.blocks.skipping self.new.blocks.skipping directive_location self.old.blocks.stack.items) × ((if self.old.blocks.skipping then self.new.blocks.skipping else true) ≡ true)) }
     {
-        if self.blocks.skipping {
-            self.begin_block(
-                DirectiveBlock {
-                    start_location: directive_location,
-                    had_valid_segment: false,
-                    had_else: false,
-                    outer_skipped: true,
-                },
-                true,
-            )?;
-            return self.reader.consume_until_newline();
-        }
-        let holds = parse(self, meter)?;
+        let outer_skipped = self.blocks.skipping;
+        let holds = !outer_skipped && parse(self, meter)?;
         self.begin_block(
             DirectiveBlock {
                 start_location: directive_location,
                 had_valid_segment: holds,
                 had_else: false,
-                outer_skipped: false,
+                outer_skipped,
             },
             !holds,
-        )
+        )?;
+        if outer_skipped {
+            return self.reader.consume_until_newline();
+        }
+        Ok(())
     }
 
     pub fn parse_if_directive(&mut self, location: Location, meter: &mut Meter) -> Step<()>
@@ -261,10 +263,7 @@ impl<S: Source> DirectiveProcessor<S> {
         };
         self.line_offset = i64::from(number) - i64::from(location.line);
         pass_second_expression(&mut evaluator)?;
-        match evaluator.peek()? {
-            Some(token) => Err(Fault::unexpected(token, Layer::Directives)),
-            None => Ok(()),
-        }
+        expect_end(&mut evaluator)
     }
 
     pub fn parse_line_directive(
@@ -279,7 +278,7 @@ impl<S: Source> DirectiveProcessor<S> {
         let mark = meter.mark();
         let guard = Guard { meter, mark };
         let line = self.reader.gather_until_newline(guard.meter)?;
-        self.evaluate_line(directive_location, line, guard.meter)?;
-        Ok(())
+        let read = self.evaluate_line(directive_location, line, guard.meter);
+        read.map_err(StepExit::Error)
     }
 }

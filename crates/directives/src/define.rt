@@ -7,7 +7,7 @@ ghost use Rattle.directives.specs.Unchanged.{Same, Beside};
 use crate::processor::DirectiveProcessor;
 use reading::definitions::{accept_define, keep_tokens};
 use sources::source::Source;
-use tokens::fault::{Fault, Layer, Step};
+use tokens::fault::{Fault, Layer, Step, StepExit};
 use tokens::lexer::LexerToken;
 use tokens::location::Location;
 
@@ -20,8 +20,13 @@ impl<S: Source> DirectiveProcessor<S> {
         let (name, name_location) = self.reader.expect_lexer_ident(directive_location)?;
         match self.reader.read_define(&mut self.defines) {
             Ok(function_like) => {
-                accept_define(&mut self.defines, name, function_like, name_location)?;
-                Ok(())
+                let accepted = accept_define(
+                    &mut self.defines,
+                    name,
+                    function_like,
+                    name_location,
+                );
+                accepted.map_err(StepExit::Error)
             }
             Err(exit) => {
                 self.defines.give_back();

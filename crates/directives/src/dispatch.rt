@@ -1,5 +1,4 @@
 // One directive line: the word decides, and whether the text is live.
-ghost use Rattle.std.specs.Prelude.{◌≡◌};
 ghost use Rattle.stores.specs.Tank.{tank, Spends};
 ghost use Rattle.books.specs.Book.{Grown};
 ghost use Rattle.defines.specs.Held.{held};

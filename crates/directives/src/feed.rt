@@ -60,6 +60,7 @@ impl<S: Source> DirectiveProcessor<S> {
     }
 }
 
+// A feed is a book (a form of the project), so it hands the questions on.
 impl<S: Source> Book for DirectiveProcessor<S> {
     ghost defs = { λ p. held p.defines };
 

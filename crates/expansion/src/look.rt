@@ -1,5 +1,4 @@
 // The two questions of a condition's parser: a look without expansion, and the start of a name that it gave.
-ghost use Rattle.std.specs.Prelude.{◌≡◌};
 ghost use Rattle.stores.specs.Tank.{tank};
 ghost use Rattle.expansion.specs.Processor.{view};
 ghost use Rattle.expansion.specs.Sane.{Holds};

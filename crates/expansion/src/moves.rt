@@ -1,7 +1,6 @@
 // One move: the top macro is read on, or else the input of the level.
-ghost use Rattle.std.specs.Prelude.{◌≡◌, ℕ, ◌+◌, ◌<◌, ◌≤◌, vec_len};
-ghost use Rattle.stores.specs.Tank.{tank, read};
-ghost use Rattle.stores.specs.Idents.{ident_of};
+ghost use Rattle.std.specs.Prelude.{◌≡◌, ◌+◌, ◌<◌, vec_len};
+ghost use Rattle.stores.specs.Tank.{read};
 ghost use Rattle.expansion.specs.Processor.{view, top};
 ghost use Rattle.expansion.specs.Phases.{on_arg, on_word, in_use, in_input, Read};
 

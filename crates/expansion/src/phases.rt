@@ -1,8 +1,8 @@
 // What each phase makes of the step that it meets.
-ghost use Rattle.std.specs.Prelude.{◌≡◌, ℕ, ◌+◌, ◌<◌, ◌≤◌, length, Some, vec_len};
+ghost use Rattle.std.specs.Prelude.{◌≡◌, ◌+◌, ◌<◌, Some, vec_len};
 ghost use Rattle.stores.specs.Tank.{tank};
 ghost use Rattle.expansion.specs.Processor.{view, base, expanding, named, fault};
-ghost use Rattle.expansion.specs.Phases.{barred, starting, quiet, entered, passed, begun, parted, split, reached, opened, descended, bare, counted, closed, storing, gathered, returned, finished, holding, spent, meeting, Made};
+ghost use Rattle.expansion.specs.Phases.{barred, starting, quiet, entered, passed, begun, parted, split, reached, opened, descended, bare, counted, closed, storing, gathered, returned, finished, holding, meeting, Made};
 ghost use Rattle.expansion.specs.Sane.{Sane, Placed};
 ghost use Rattle.expansion.specs.Delimiters.{delimits};
 

@@ -1,5 +1,5 @@
 // The processor: what its current level is doing, the levels that wait below, and the macros in expansion at all levels.
-ghost use Rattle.std.specs.Prelude.{◌≡◌, ℕ, ◌≤◌, vec_len, vec_capacity};
+ghost use Rattle.std.specs.Prelude.{◌≡◌, ◌≤◌, vec_len, vec_capacity};
 
 use crate::invocation::{DefineInvocation, Level, Pending, Phase};
 use stores::span::Span;

@@ -1,5 +1,5 @@
 // Any number of steps of a fresh processor, over any feed and with any budget.
-ghost use Rattle.std.specs.Prelude.{◌≡◌, IfOk};
+ghost use Rattle.std.specs.Prelude.{IfOk};
 ghost use Rattle.expansion.specs.Sane.{Lawful};
 
 use crate::processor::MacroProcessor;

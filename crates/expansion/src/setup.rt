@@ -1,6 +1,5 @@
 // A processor as it is set up, and as it begins anew.
-ghost use Rattle.std.specs.Prelude.{◌≡◌, ℕ, ◌+◌, ◌<◌, ◌≤◌, IfOk};
-ghost use Rattle.stores.specs.Spans.{nowhere};
+ghost use Rattle.std.specs.Prelude.{◌≡◌, ◌<◌, IfOk};
 ghost use Rattle.expansion.specs.Processor.{view, fresh};
 
 use crate::invocation::{Level, Phase};

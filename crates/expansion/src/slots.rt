@@ -1,6 +1,5 @@
 // The arguments of calls, in slots of 32: one for each macro in expansion, then one for the call of each level.
-ghost use Rattle.std.specs.Prelude.{◌≡◌, ℕ, ◌+◌, ◌*◌, ◌<◌, ◌≤◌, length, vec_len};
-ghost use Rattle.stores.specs.Spans.{nowhere};
+ghost use Rattle.std.specs.Prelude.{◌≡◌, ◌+◌, ◌*◌, ◌<◌};
 ghost use Rattle.expansion.specs.Processor.{view, argued};
 ghost use Rattle.expansion.specs.Arguments.{arg_at, with_arg, copied, slot_of_call};
 

@@ -1,5 +1,5 @@
 // A move, a turn and a step of the processor over any feed.
-ghost use Rattle.std.specs.Prelude.{◌≡◌, ℕ, ◌+◌, ◌<◌, ◌≤◌, OnOk};
+ghost use Rattle.std.specs.Prelude.{◌<◌, OnOk};
 ghost use Rattle.stores.specs.Tank.{tank};
 ghost use Rattle.expansion.specs.Processor.{view};
 ghost use Rattle.expansion.specs.Sane.{Holds};

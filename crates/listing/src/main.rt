@@ -1,11 +1,9 @@
 // Lists what passes of the token file on standard input.
 #![tactic(auto)]
 
-use lists::list::list;
+use lists::list::{MOVES, list};
 use std::io;
 use std::io::Read;
-
-const MOVES: u64 = 1_000_000;
 
 // One byte more than a token file may have.
 const ENOUGH: u64 = 65_537;

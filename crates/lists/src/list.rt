@@ -9,6 +9,9 @@ use std::io;
 use std::io::Write;
 use tokens::fault::Refusal;
 
+// What a program grants.
+pub const MOVES: u64 = 1_000_000;
+
 // Every token that passes, then the end or the fault.
 fn list_run<S: Source, W: Write>(
     names: &Names,

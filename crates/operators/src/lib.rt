@@ -1,8 +1,8 @@
 // The operators of a condition: their levels, and what they make of signed 64-bit values.
 #![tactic(auto)]
 
-ghost use Rattle.std.specs.Prelude.{◌≡◌, ℤ, neg_ℤ};
-ghost use Rattle.operators.specs.Calc.{operator_level, calc, fitted, sign_in, signed};
+ghost use Rattle.std.specs.Prelude.{◌≡◌};
+ghost use Rattle.operators.specs.Calc.{operator_level, calc, sign_in, signed};
 
 use tokens::fault::PreprocessorError;
 use tokens::punct::Punct;

@@ -1,5 +1,5 @@
 // Questions to a run; they change nothing.
-ghost use Rattle.std.specs.Prelude.{◌≡◌, ℕ, suc, ◌+◌, ◌≤◌, length};
+ghost use Rattle.std.specs.Prelude.{◌≡◌, ◌+◌, length};
 ghost use Rattle.std.specs.List.{slice_get};
 ghost use Rattle.books.specs.Book.{live};
 ghost use Rattle.expansion.specs.Sane.{Lawful};

@@ -1,13 +1,12 @@
 // Set-up, next and host definitions.
-ghost use Rattle.std.specs.Prelude.{◌≡◌, ℕ, ◌-◌, ◌<◌, ◌≤◌, [], IfOk, Some, None, MatchResult, OnErr, OnOk};
-ghost use Rattle.stores.specs.Tank.{Tank, fresh};
+ghost use Rattle.std.specs.Prelude.{◌≡◌, ◌-◌, ◌<◌, ◌≤◌, [], IfOk, Some, None, MatchResult, OnErr, OnOk};
+ghost use Rattle.stores.specs.Tank.{fresh};
 ghost use Rattle.defines.specs.Changes.{empty};
 ghost use Rattle.expansion.specs.Moved.{PaysFor};
 ghost use Rattle.books.specs.Book.{Grown, Kept};
 ghost use Rattle.preprocessor.specs.Runs.{spent_of, book_of, in_expansion, Repeats, Still, Refused};
 
 use crate::state::Preprocessor;
-use books::Feed;
 use directives::processor::DirectiveProcessor;
 use expansion::processor::MacroProcessor;
 use sources::source::Source;

@@ -7,6 +7,7 @@ use expansion::processor::MacroProcessor;
 use stores::meter::Meter;
 use tokens::fault::Fault;
 
+// The invariant stands fact by fact, as a ghost field must be a proposition.
 #[derive(Drop)]
 pub struct Preprocessor<S> {
     pub(crate) directives: DirectiveProcessor<S>,

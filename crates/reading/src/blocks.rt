@@ -1,5 +1,5 @@
 // The blocks that are open, and whether the text is skipped.
-ghost use Rattle.std.specs.Prelude.{ℕ, ◌≤◌, vec_len, vec_capacity};
+ghost use Rattle.std.specs.Prelude.{◌≤◌, vec_len, vec_capacity};
 
 use tokens::location::Location;
 

@@ -1,5 +1,4 @@
 // The parameters and the body of a definition are read, and it is accepted.
-ghost use Rattle.std.specs.Prelude.{◌≡◌};
 ghost use Rattle.books.specs.Book.{Grown};
 ghost use Rattle.defines.specs.Held.{held, ReadOn, Settled};
 

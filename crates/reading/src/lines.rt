@@ -1,6 +1,5 @@
 // Single tokens and whole lines of a source.
-ghost use Rattle.std.specs.Prelude.{◌≡◌, ℕ, ◌<◌, ◌≤◌, length, OnOk};
-ghost use Rattle.tokens.specs.Places.{origin};
+ghost use Rattle.std.specs.Prelude.{◌≡◌, ◌<◌, ◌≤◌, length, OnOk};
 ghost use Rattle.sources.specs.Source.{read, after};
 ghost use Rattle.stores.specs.Tank.{tank, Grows};
 ghost use Rattle.defines.specs.Held.{ReadOn};

@@ -1,5 +1,4 @@
 // A source, and where its last token was read.
-use sources::source::Source;
 use tokens::location::Location;
 
 #[derive(Drop)]

@@ -1,5 +1,5 @@
 // Blocks are opened, changed and closed.
-ghost use Rattle.std.specs.Prelude.{◌≡◌, ℕ, ◌-◌, ◌<◌, ◌≤◌, false, cond, [], length, take, is_ok, IfOk, IfErr, vec_len, vec_capacity, nat_lt};
+ghost use Rattle.std.specs.Prelude.{◌≡◌, ◌-◌, ◌<◌, false, [], length, take, is_ok, IfOk, IfErr, nat_lt};
 ghost use Rattle.tokens.specs.declared.fault.PreprocessorError.TheVariants.{TooManyBlocks};
 ghost use Rattle.stores.specs.Places.{latest};
 ghost use Rattle.reading.specs.Blocks.{pushed, replaced};

@@ -4,12 +4,10 @@
 mod container;
 
 use container::first_case;
-use lists::list::list;
+use lists::list::{MOVES, list};
 use std::alloc::Global;
 use std::io;
 use std::io::{Read, Write};
-
-const MOVES: u64 = 1_000_000;
 
 fn replay<W: Write>(heap: Global, container: &[u8], out: &mut W) -> io::Result<()> {
     let mut rest = container;

@@ -1,6 +1,7 @@
 -- Steps of a search, and the last element.
-use Rattle.std.proofs.Common.{◌≡◌, ℕ, suc, ◌+◌, ◌-◌, ◌<◌, ◌≤◌, true, false, cond, ltb, List, [], ◌∷◌, ◌++◌, map, length, get_or, drop, is_some, Some, None, Option, nat_eq, sym, refl, ap, ◌∙◌, arith, Bor}
-use Rattle.std.specs.Option.{option_eq, option_map, option_to_list}
+use Rattle.std.proofs.Common.{◌≡◌, ℕ, zero, suc, ◌+◌, ◌-◌, ◌<◌, ◌≤◌, true, false, cond, ltb, List, [], ◌∷◌, ◌++◌, map, length, get_or, drop, is_some, Some, None, Option, nat_eq, sym, refl, ap, ◌∙◌, arith, Bor}
+use Rattle.std.specs.List.{AllWithin, HoldsAt}
+use Rattle.std.specs.Option.{option_eq, option_map, option_to_list, MatchOption}
 use Rattle.std.specs.Slice.{IsGetResult}
 use Rattle.std.proofs.lemmas.List.{at_drop_more, at_drop_all, get_or-map, length-map}
 use Rattle.std.proofs.lemmas.Bool.Decides.{nat_tests}
@@ -15,13 +16,13 @@ module _ (k : ℕ) (xs : List (Option ℕ)) (i : ℕ) where
   more : i < length xs → place i k (drop i xs) ≡ cond (bears (get_or xs i None) k) (Some i) (place (i + 1) k (drop (i + 1) xs))
   more h = at_drop_more (place i k) xs i None h
 
-  pub hit : i < length xs → bears (get_or xs i None) k ≡ true → place i k (drop i xs) ≡ Some i
+  hit : i < length xs → bears (get_or xs i None) k ≡ true → place i k (drop i xs) ≡ Some i
   hit h e = more h ∙ ap (λ t. cond t (Some i) (place (i + 1) k (drop (i + 1) xs))) e
 
-  pub miss : i < length xs → bears (get_or xs i None) k ≡ false → place i k (drop i xs) ≡ place (i + 1) k (drop (i + 1) xs)
+  miss : i < length xs → bears (get_or xs i None) k ≡ false → place i k (drop i xs) ≡ place (i + 1) k (drop (i + 1) xs)
   miss h e = more h ∙ ap (λ t. cond t (Some i) (place (i + 1) k (drop (i + 1) xs))) e
 
-  pub over : length xs ≤ i → place i k (drop i xs) ≡ None
+  over : length xs ≤ i → place i k (drop i xs) ≡ None
   over h = at_drop_all (place i k) xs i h
 
 pub latest_last : {X : Type 0} (xs : List X) (d : X) → 0 < length xs → latest xs ≡ Some (get_or xs (length xs - 1) d)
@@ -48,15 +49,26 @@ taken_off [] ys None e t = refl
 taken_off (x ∷ xs) ys None e t = absurd (grind (arith, nat_tests))
 taken_off xs ys (Some x) e t = sym (ap latest e ∙ latest_push ys x)
 
-module _ {X : Type 0} (f : X → Option ℕ) (k : ℕ) (xs : List X) (i : ℕ) where
-  keyed : (x : X) → i < length xs → x ≡ get_or xs i x → get_or (map f xs) i None ≡ f x
-  keyed x h e = get_or-map f xs i x None h ∙ ap f (sym e)
+module _ {X : Type 0} (f : X → Option ℕ) (k : ℕ) (xs : List X) where
+  abbrev pub Here : X → Type 0
+  Here x = bears (f x) k ≡ true
 
-  pub found_at : (x : X) → i < length xs → x ≡ get_or xs i x → bears (f x) k ≡ true → place i k (drop i (map f xs)) ≡ Some i
-  found_at x h e y = hit k (map f xs) i (simp length-map h) (ap (λ o. bears o k) (keyed x h e) ∙ y)
+  abbrev pub Elsewhere : X → Type 0
+  Elsewhere x = bears (f x) k ≡ false
 
-  pub passed_at : (x : X) → i < length xs → x ≡ get_or xs i x → bears (f x) k ≡ false → place i k (drop i (map f xs)) ≡ place (i + 1) k (drop (i + 1) (map f xs))
-  passed_at x h e n = miss k (map f xs) i (simp length-map h) (ap (λ o. bears o k) (keyed x h e) ∙ n)
+  before : (d : X) (i : ℕ) → i ≤ length xs → AllWithin Elsewhere xs 0 i → place 0 k (map f xs) ≡ place i k (drop i (map f xs))
+  before d zero l h = refl
+  before d (suc i) l h =
+      let here : i < length xs = omega arith in
+      let next : i + 1 ≡ suc i = omega arith in
+      before d i (omega arith) (λ j e a b. h j e a (omega arith)) ∙ miss k (map f xs) i (simp length-map here) (ap (λ o. bears o k) (get_or-map f xs i d None here) ∙ h i d (omega arith) (omega arith)) ∙ ap (λ n. place n k (drop n (map f xs))) next
 
-  pub none_left : length xs ≤ i → place i k (drop i (map f xs)) ≡ None
-  none_left h = over k (map f xs) i (simp length-map h)
+  found_from : (d : X) (r : Option ℕ) → MatchOption r (AllWithin Elsewhere xs 0 (length xs)) (λ i. (i < length xs) × HoldsAt Here xs i × AllWithin Elsewhere xs 0 i) → r ≡ place 0 k (map f xs)
+  found_from d None h = sym (before d (length xs) (omega arith) h ∙ over k (map f xs) (length xs) (simp length-map (omega arith)))
+  found_from d (Some i) h = sym (before d i (omega (arith, h.0)) h.2 ∙ hit k (map f xs) i (simp length-map h.0) (ap (λ o. bears o k) (get_or-map f xs i d None h.0) ∙ h.1 d))
+
+-- what `position` answers
+pub found : {X : Type 0} (f : X → Option ℕ) (k : ℕ) (xs : List X) (r : Option ℕ) → MatchOption r (AllWithin (Elsewhere f k xs) xs 0 (length xs)) (λ i. (i < length xs) × HoldsAt (Here f k xs) xs i × AllWithin (Elsewhere f k xs) xs 0 i) → r ≡ place 0 k (map f xs)
+found f k [] None h = refl
+found f k [] (Some i) h = absurd (omega (arith, h.0))
+found f k (x ∷ xs) r h = found_from f k (x ∷ xs) x r h

@@ -1,9 +1,9 @@
 -- What is stored before stays in front, and is all that a cut back to the mark leaves.
-use Rattle.std.proofs.Common.{◌≡◌, ◌≤◌, Bool, true, false, cond, List, [], ◌∷◌, length, take, sym, refl, ap, ◌∙◌, subst, arith}
-use Rattle.std.proofs.lemmas.List.{take_all, take-take, take_at, length-take}
+use Rattle.std.proofs.Common.{◌≡◌, ◌≤◌, List, length, take, sym, refl, ap, ◌∙◌, subst, arith}
+use Rattle.std.proofs.lemmas.List.{take_all, take-take, length-take}
 use Rattle.tokens.specs.declared.token.Token.{Token}
 use Rattle.stores.specs.declared.guard.Mark.{Mark}
-use Rattle.stores.specs.Tank.{Tank, stored, cut, Spends, Grows}
+use Rattle.stores.specs.Tank.{Tank, cut, Spends, Grows}
 use Rattle.stores.specs.Marks.{marked}
 
 front_on : (xs ys zs : List Token) → take (length xs) ys ≡ xs → take (length ys) zs ≡ ys → take (length xs) zs ≡ xs
@@ -27,21 +27,8 @@ grows_on t u v f g = record {
   building = front_on t.building u.building v.building f.building g.building;
 }
 
--- a token is stored, or there is no room for it
-pub grows_stored : (t u v : Tank) (b : Bool) (x : Token) → Grows t u → v ≡ cond b (stored u x) u → Grows t v
-grows_stored t u v true x f e = subst (Grows t) (sym e) (grows_on t u (stored u x) f (record {
-  moves = omega arith;
-  budget = refl;
-  working = take_at u.working (x ∷ []) (length u.working) refl;
-  building = take_all (length u.building) u.building (omega arith);
-}))
-grows_stored t u v false x f e = subst (Grows t) (sym e) f
-
 -- cut back to the mark, only moves are gone
 pub given_back : (t u v : Tank) (m : Mark) → m ≡ marked t → Grows t u → v ≡ cut u m.working m.building → Spends t v
 given_back t u v m e f g =
     let h : v ≡ cut u (length t.working) (length t.building) = g ∙ ap (λ k. cut u k.working k.building) e in
     subst (Spends t) (sym h) (record { moves = f.moves; budget = f.budget; working = f.working; building = f.building })
-
-pub spends_same : (t : Tank) → Spends t t
-spends_same t = record { moves = omega arith; budget = refl; working = refl; building = refl }

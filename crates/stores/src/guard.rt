@@ -1,5 +1,5 @@
 // What a directive took of the working store is given back on every way out of it.
-ghost use Rattle.std.specs.Prelude.{◌≡◌, length};
+ghost use Rattle.std.specs.Prelude.{◌≡◌};
 ghost use Rattle.stores.specs.Tank.{tank, cut};
 ghost use Rattle.stores.specs.Marks.{marked};
 

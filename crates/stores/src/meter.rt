@@ -1,5 +1,5 @@
 // Moves and working tokens, shared by a processor and its feed.
-ghost use Rattle.std.specs.Prelude.{ℕ, ◌+◌, ◌≤◌, vec_len, vec_capacity};
+ghost use Rattle.std.specs.Prelude.{◌+◌, ◌≤◌, vec_len, vec_capacity};
 
 use tokens::token::Token;
 

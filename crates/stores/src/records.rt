@@ -1,5 +1,5 @@
 // Search by name and stacks, written once for every kind of record.
-ghost use Rattle.std.specs.Prelude.{◌≡◌, ℕ, ◌+◌, ◌-◌, ◌<◌, ◌≤◌, List, [], ◌∷◌, ◌++◌, map, length, take, IfSome, is_ok, IfErr, if◌then◌else◌, vec_len, vec_capacity, Option, MatchOption, nat_lt};
+ghost use Rattle.std.specs.Prelude.{◌≡◌, ℕ, ◌+◌, ◌-◌, ◌<◌, ◌≤◌, [], ◌∷◌, ◌++◌, map, length, take, IfSome, is_ok, IfErr, if◌then◌else◌, vec_len, vec_capacity, Option, MatchOption, nat_lt};
 ghost use Rattle.std.specs.Option.{option_map, option_to_list};
 ghost use Rattle.stores.specs.Places.{place, latest};
 ghost use Rattle.stores.specs.Idents.{ident_of};
@@ -31,12 +31,7 @@ pub fn find<T: Named>(items: &[T], name: u32) -> Option<usize>
     ensures value { result ≡ place 0 name (map T.key items.now) }
     ensures within { IfSome result (λ i. i < length items.now) }
 {
-    for (i, x) in items.iter().enumerate() {
-        if x.name() == Some(name) {
-            return Some(i);
-        }
-    }
-    None
+    items.iter().position(|x| x.name() == Some(name))
 }
 
 // One more record at the end, or the record back where there are `limit` already.
@@ -54,7 +49,7 @@ pub fn push<T>(items: &mut Vec<T>, limit: usize, x: T) -> Result<(), T>
     Ok(())
 }
 
-// The last record, taken off.
+// The last record, taken off. Thin over the library's: generic find, push and pop are a form of the project.
 pub fn pop<T>(items: &mut Vec<T>) -> Option<T>
     ensures items { items.old.items ≡ items.new.items ++ option_to_list result }
     ensures front { items.new.items ≡ take (vec_len items.old - 1) items.old.items }

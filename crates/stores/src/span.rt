@@ -1,8 +1,8 @@
 // A part of the working store, from its first token up to the first behind it.
-ghost use Rattle.std.specs.Prelude.{◌≡◌, ℕ, ◌+◌, ◌<◌, ◌≤◌};
+ghost use Rattle.std.specs.Prelude.{◌≡◌, ◌+◌, ◌<◌};
 ghost use Rattle.stores.specs.Spans.{onward};
 
-// The default part is empty.
+// The default part is empty. It is read from the front, so it is no start with a length.
 #[derive(Clone, Copy, Default)]
 pub struct Span {
     pub from: usize,

@@ -2,7 +2,7 @@
 ghost use Rattle.std.specs.Prelude.{◌≡◌, List, [], ◌∷◌, ◌++◌, is_ok, if◌then◌else◌};
 ghost use Rattle.tokens.specs.declared.token.Token.{Token};
 ghost use Rattle.stores.specs.Tank.{tank, Grows};
-ghost use Rattle.stores.specs.Growing.{grows_same, grows_on, grows_stored};
+ghost use Rattle.stores.specs.Growing.{grows_same, grows_on};
 
 use crate::meter::Meter;
 use tokens::fault::PreprocessorError;

@@ -1,5 +1,5 @@
 // The methods of the meter.
-ghost use Rattle.std.specs.Prelude.{◌≡◌, ℕ, ◌+◌, ◌<◌, ◌≤◌, true, ltb, length, is_ok, IfOk, IfErr, if◌then◌else◌, nat_lt};
+ghost use Rattle.std.specs.Prelude.{◌≡◌, ◌+◌, ◌<◌, ltb, length, is_ok, IfOk, IfErr, if◌then◌else◌, nat_lt};
 ghost use Rattle.tokens.specs.declared.fault.PreprocessorError.TheVariants.{WorkingTokensFull, MovesSpent};
 ghost use Rattle.std.specs.List.{slice_get};
 ghost use Rattle.stores.specs.Tank.{tank, roomy, stored, built, shifted, whole, spending, emptied, cut, fresh, read};
@@ -90,15 +90,12 @@ impl Meter {
         ensures after { tank self.new ≡ shifted (tank self.old) k }
     {
         let from = self.working.len();
-        let n = self.building.len();
-        if k >= n {
-            return Span { from, to: from };
-        }
+        let k = k.min(self.building.len());
         let _ = self.working.extend_from_slice(&self.building[k..]);
         self.building.truncate(k);
         Span {
             from,
-            to: from + (n - k),
+            to: self.working.len(),
         }
     }
 

@@ -6,6 +6,7 @@ ghost use Rattle.tokens.specs.Floats.{value_equal, float_equal, float_laws};
 
 use crate::token::Float;
 
+// By the bits: `from_bits` wants a number.
 fn is_nan(bits: u32) -> bool
     ensures { result ≡ nan_bits binary32 bits }
 {

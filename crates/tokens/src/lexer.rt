@@ -33,7 +33,7 @@ pub enum LexerError {
     NotSupported64BitLiteral,
 }
 
-// How a list of tokens ends.
+// How a list of tokens ends: the names say more than an Option of a pair would.
 #[derive(Clone, Copy)]
 pub enum Closing {
     End,

@@ -74,6 +74,7 @@ pub struct UnknownPunct {
     pub number: u8,
 }
 
+// A table, as 45 arms are too many for the search.
 const PUNCTS: [Punct; 45] = [
     Punct::AddAssign,
     Punct::SubAssign,

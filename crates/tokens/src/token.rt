@@ -1,5 +1,5 @@
 // A token as the preprocessor answers it.
-ghost use Rattle.std.specs.Prelude.{Some};
+ghost use Rattle.std.specs.Prelude.{◌≡◌, ◌+◌, ◌≤◌, length, take, drop, Some};
 ghost use Rattle.tokens.specs.Texts.{integer_text, float_text, version_text, extension_text, pragma_text};
 
 use crate::location::Location;
@@ -21,10 +21,20 @@ pub struct Float {
 }
 
 // Neighbouring items of a store: the first, and how many.
-#[derive(Clone, Copy)]
+#[derive(Clone, Copy, Default)]
 pub struct Part {
     pub start: usize,
     pub len: usize,
+}
+
+impl Part {
+    // These neighbouring items of a store.
+    pub fn of<T>(self, items: &[T]) -> &[T]
+        requires { self.start + self.len ≤ length items.now }
+        ensures { result.now ≡ take self.len (drop self.start items.now) }
+    {
+        &items[self.start..][..self.len]
+    }
 }
 
 #[derive(Clone, Copy)]

@@ -1,4 +1,5 @@
 // The numbers of the fixed words, which a fresh name table holds in this order.
+// Numbers and no enum: names come as numbers, and the project matches the directive words by range.
 pub const ERROR: u32 = 0;
 
 pub const LINE: u32 = 1;

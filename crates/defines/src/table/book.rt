@@ -12,38 +12,21 @@ use stores::records;
 use stores::records::Named;
 use tokens::token::{Part, Token};
 
-// What a handle means that no definition has.
-const NONE: Define = Define {
-    name: 0,
-    function_like: false,
-    params: Part { start: 0, len: 0 },
-    tokens: Part { start: 0, len: 0 },
-    in_force: false,
-};
-
 // A definition in force is found by its name.
 impl Named for Define {
     ghost key = { key_of };
 
     fn name(&self) -> Option<u32> {
-        if self.in_force { Some(self.name) } else { None }
+        self.in_force.then_some(self.name)
     }
 }
 
 impl Defines {
+    // An empty definition out of force where no definition has the handle.
     pub(super) fn define(&self, handle: Handle) -> Define
         ensures { result ≡ slice_index_or self.now.table.items handle vacant }
     {
-        self.table.get(handle).copied().unwrap_or(NONE)
-    }
-
-    pub(super) fn part(&self, part: Part) -> &[Token]
-        requires { part.start + part.len ≤ vec_len self.now.kept }
-        ensures { result.now ≡ part_of self.now.kept.items part }
-    {
-        let start = part.start;
-        let end = start + part.len;
-        &self.kept[start..end]
+        self.table.get(handle).copied().unwrap_or_default()
     }
 
     // A token of a part, none where the part or the store ends.
@@ -76,7 +59,7 @@ impl Book for Defines {
     }
 
     fn parameter(&self, handle: Handle, name: u32) -> Option<usize> {
-        let params = self.part(self.define(handle).params);
+        let params = self.define(handle).params.of(&self.kept);
         records::find(params, name)
     }
 

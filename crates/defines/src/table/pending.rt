@@ -95,6 +95,7 @@ impl Defines {
     }
 
     // Whether the definition that is being read may be given again for one that stands: it is the same up to where its tokens stand.
+    // Step by step: one chain of `&&` was tried, and its cases were not proved.
     pub fn legal_redefinition(&self, handle: Handle, function_like: bool) -> bool
         ensures { result ≡ legal (mean (held self.now) handle) function_like (parameters self.now) (replacement self.now) }
     {
@@ -102,10 +103,13 @@ impl Defines {
         if previous.function_like != function_like {
             return false;
         }
-        if !same_tokens(self.part(previous.params), &self.kept[self.mark..self.body]) {
+        if !same_tokens(
+            previous.params.of(&self.kept),
+            &self.kept[self.mark..self.body],
+        ) {
             return false;
         }
-        same_tokens(self.part(previous.tokens), &self.kept[self.body..])
+        same_tokens(previous.tokens.of(&self.kept), &self.kept[self.body..])
     }
 
     // What was read becomes the tokens of a passed directive, for ever.

@@ -1,7 +1,7 @@
 // Entering names, finding them, reading them back, and forgetting the latest.
 ghost use Rattle.std.specs.Prelude.{◌≡◌, ◌+◌, ◌<◌, ◌≤◌, [], ◌∷◌, ◌++◌, map, fold, length, take, None, MatchOption, MatchResult, slice_index_or};
 ghost use Rattle.std.specs.List.{concat};
-ghost use Rattle.names.specs.Spans.{spanned, Distinct};
+ghost use Rattle.names.specs.Spans.{Distinct};
 ghost use Rattle.names.specs.Interning.{seek, answer, after};
 ghost use Rattle.names.specs.Table.{fixed};
 
@@ -58,7 +58,7 @@ impl Names {
         ensures { MatchOption result (length self.now ≤ n) (λ b. (n < length self.now) × (b.now ≡ slice_index_or self.now n [])) }
     {
         let part = self.spans.get(n as usize)?;
-        Some(spanned(&self.bytes, *part))
+        Some(part.of(&self.bytes))
     }
 
     // The number of the name with these bytes.
@@ -68,7 +68,7 @@ impl Names {
         let place = self
             .spans
             .iter()
-            .position(|part| same_name(spanned(&self.bytes, *part), bytes))?;
+            .position(|part| same_name(part.of(&self.bytes), bytes))?;
         Some(place as u32)
     }
 
@@ -148,12 +148,4 @@ impl Names {
             let _ = self.intern(word);
         }
     }
-}
-
-// The bytes of a part of all the bytes.
-fn spanned(bytes: &[u8], part: Part) -> &[u8]
-    requires { part.start + part.len ≤ length bytes.now }
-    ensures { result.now ≡ spanned bytes.now part }
-{
-    &bytes[part.start..][..part.len]
 }

@@ -13,6 +13,7 @@ pub struct Parts<'a> {
     pub records: &'a [u8],
 }
 
+// The table's own limit, at the width of the file: all lengths are tested before a name is entered.
 const NAME_LEN: u16 = 1024;
 
 // The counts of names and of tokens, and the bytes after them; none where there are fewer than eight bytes.

@@ -1,16 +1,11 @@
-use Rattle.std.proofs.Common.{sym, ap, ◌∙◌}
-use Rattle.stores.specs.Places.{bears}
-use Rattle.stores.proofs.Laws.{borne, found_at, passed_at, none_left}
+use Rattle.std.proofs.Common.{rules}
+use Rattle.std.proofs.lemmas.Iterator.{YieldsList-from_slice, IsFirst-from_position}
+use borrow.Author.Tests.{tests}
+use Rattle.stores.proofs.Laws.{Here, Elsewhere, borne, found}
 use Rattle.stores.proofs.records.find.Goals as goal
 
-pub returns-then-eq : goal.returns-then-eq
-returns-then-eq g c = record {
-  value = sym (found_at _ _ _ _ _ c.loop-i-test.true c.index-items-i.is (ap (λ o. bears o c.args.name) (sym c.name.ensures) ∙ sym (borne c.name.result c.args.name) ∙ sym c.eq.ensures ∙ c.if-eq.true)) ∙ c.loop-i.invariant;
-  within = c.loop-i-test.true;
-}
-
-pub loop-i-preserved : goal.loop-i-preserved
-loop-i-preserved g c = sym (passed_at _ _ _ _ _ c.loop-i-test.true c.index-items-i.is (ap (λ o. bears o c.args.name) (sym c.name.ensures) ∙ sym (borne c.name.result c.args.name) ∙ sym c.eq.ensures ∙ c.if-eq.false)) ∙ c.loop-i.invariant
-
-pub returns : goal.returns
-returns g c = record { value = sym (none_left _ _ _ _ c.loop-i-test.false) ∙ c.loop-i.invariant; within = tt }
+pub returns-clause-value : goal.returns-clause-value
+returns-clause-value g c =
+    let key = g.T.Named.key in
+    let xs = c.args.items.now in
+    found key c.args.name xs c.position.result (IsFirst-from_position _ _ c.position.result (Here key c.args.name xs) (Elsewhere key c.args.name xs) c.position.ensures.ran (YieldsList-from_slice xs (cc)) (λ x q k. search (rules, tests, borne)) (λ x q k. search (rules, tests, borne)))

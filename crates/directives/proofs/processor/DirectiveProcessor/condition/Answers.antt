@@ -2,20 +2,11 @@ use Rattle.stores.specs.Tank.{tank}
 use Rattle.stores.specs.Growing.{grows_on, given_back}
 use Rattle.directives.proofs.processor.DirectiveProcessor.condition.Goals as goal
 
-pub returns-in_err-holds : goal.returns-in_err-holds
-returns-in_err-holds g c =
-    let t = tank c.args.meter.now in
-    record {
-      defs = c.evaluate_if_expression.ensures.defs;
-      segments = c.evaluate_if_expression.ensures.segments;
-      stores = given_back t (tank c.evaluate_if_expression.new.meter) _ c.mark-mark.result c.mark-mark.ensures (grows_on t (tank c.gather_until_newline.new.meter) _ c.gather_until_newline.ensures c.evaluate_if_expression.ensures.stores) c.drop-guard-in_err-holds.ensures;
-    }
-
 pub returns : goal.returns
 returns g c =
     let t = tank c.args.meter.now in
     record {
-      defs = c.evaluate_if_expression.ensures.defs;
-      segments = c.evaluate_if_expression.ensures.segments;
-      stores = given_back t (tank c.evaluate_if_expression.new.meter) _ c.mark-mark.result c.mark-mark.ensures (grows_on t (tank c.gather_until_newline.new.meter) _ c.gather_until_newline.ensures c.evaluate_if_expression.ensures.stores) c.drop-guard-2.ensures;
+      defs = c.evaluate_if_expression-holds.ensures.defs;
+      segments = c.evaluate_if_expression-holds.ensures.segments;
+      stores = given_back t (tank c.evaluate_if_expression-holds.new.meter) _ c.mark-mark.result c.mark-mark.ensures (grows_on t (tank c.gather_until_newline.new.meter) _ c.gather_until_newline.ensures c.evaluate_if_expression-holds.ensures.stores) c.drop-guard-2.ensures;
     }

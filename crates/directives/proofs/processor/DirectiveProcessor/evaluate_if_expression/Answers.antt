@@ -6,11 +6,8 @@ use Rattle.directives.proofs.processor.DirectiveProcessor.evaluate_if_expression
 pub returns-in_err-value-clause-stores : goal.returns-in_err-value-clause-stores
 returns-in_err-value-clause-stores g c = let h = fresh_grows c.begin.ensures.processor c.evaluate_expression.ensures.looked in search (rules, h)
 
-pub returns-in_err-token-clause-stores : goal.returns-in_err-token-clause-stores
-returns-in_err-token-clause-stores g c = let h = fresh_grows c.begin.ensures.processor (then_looked {t = c.evaluate_expression.new.self} c.evaluate_expression.ensures.looked c.peek.ensures.looked) in search (rules, h)
+pub returns-in_err-expect_end-clause-stores : goal.returns-in_err-expect_end-clause-stores
+returns-in_err-expect_end-clause-stores g c = let h = fresh_grows c.begin.ensures.processor (then_looked {t = c.evaluate_expression.new.self} c.evaluate_expression.ensures.looked c.expect_end.ensures) in search (rules, h)
 
-pub returns-in-Some-clause-stores : goal.returns-in-Some-clause-stores
-returns-in-Some-clause-stores g c = let h = fresh_grows c.begin.ensures.processor (then_looked {t = c.evaluate_expression.new.self} c.evaluate_expression.ensures.looked c.peek.ensures.looked) in search (rules, h)
-
-pub returns-in-None-clause-stores : goal.returns-in-None-clause-stores
-returns-in-None-clause-stores g c = let h = fresh_grows c.begin.ensures.processor (then_looked {t = c.evaluate_expression.new.self} c.evaluate_expression.ensures.looked c.peek.ensures.looked) in search (rules, h)
+pub returns-clause-stores : goal.returns-clause-stores
+returns-clause-stores g c = let h = fresh_grows c.begin.ensures.processor (then_looked {t = c.evaluate_expression.new.self} c.evaluate_expression.ensures.looked c.expect_end.ensures) in search (rules, h)

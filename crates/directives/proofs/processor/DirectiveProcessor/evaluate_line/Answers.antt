@@ -12,11 +12,5 @@ returns-in_default-clause-stores g c = let h = fresh_grows c.begin.ensures.proce
 pub returns-in_err-pass_second_expression-clause-stores : goal.returns-in_err-pass_second_expression-clause-stores
 returns-in_err-pass_second_expression-clause-stores g c = let h = fresh_grows c.begin.ensures.processor (then_looked {t = c.evaluate_expression.new.self} c.evaluate_expression.ensures.looked c.pass_second_expression.ensures) in search (rules, h)
 
-pub returns-in_err-token-clause-stores : goal.returns-in_err-token-clause-stores
-returns-in_err-token-clause-stores g c = let h = fresh_grows c.begin.ensures.processor (then_looked {t = c.pass_second_expression.new.evaluator} (then_looked {t = c.evaluate_expression.new.self} c.evaluate_expression.ensures.looked c.pass_second_expression.ensures) c.peek.ensures.looked) in search (rules, h)
-
-pub returns-in-Some-clause-stores : goal.returns-in-Some-clause-stores
-returns-in-Some-clause-stores g c = let h = fresh_grows c.begin.ensures.processor (then_looked {t = c.pass_second_expression.new.evaluator} (then_looked {t = c.evaluate_expression.new.self} c.evaluate_expression.ensures.looked c.pass_second_expression.ensures) c.peek.ensures.looked) in search (rules, h)
-
-pub returns-in-None-clause-stores : goal.returns-in-None-clause-stores
-returns-in-None-clause-stores g c = let h = fresh_grows c.begin.ensures.processor (then_looked {t = c.pass_second_expression.new.evaluator} (then_looked {t = c.evaluate_expression.new.self} c.evaluate_expression.ensures.looked c.pass_second_expression.ensures) c.peek.ensures.looked) in search (rules, h)
+pub returns-clause-stores : goal.returns-clause-stores
+returns-clause-stores g c = let h = fresh_grows c.begin.ensures.processor (then_looked {t = c.pass_second_expression.new.evaluator} (then_looked {t = c.evaluate_expression.new.self} c.evaluate_expression.ensures.looked c.pass_second_expression.ensures) c.expect_end.ensures) in search (rules, h)

@@ -2,6 +2,7 @@ use Rattle.std.proofs.Common.{map, vec_items, ap, ◌∙◌}
 use Rattle.stores.specs.Places.{place}
 use Rattle.stores.specs.Idents.{ident_of}
 use Rattle.defines.proofs.Meanings.{meant}
+use Rattle.defines.specs.Parts.{part_of}
 use Rattle.defines.specs.Held.{held}
 use Rattle.defines.proofs.table.book.DefinesBook.parameter.Goals as goal
 
@@ -9,4 +10,4 @@ pub returns : goal.returns
 unfolding held
 returns c =
     let s = c.args.self.now in
-    record { value = c.find.ensures.value ∙ ap (λ l. place 0 c.args.name (map ident_of l)) c.part-params.ensures ∙ ap (λ m. place 0 c.args.name (map ident_of m.params)) (meant (vec_items s.kept) (vec_items s.table) c.args.handle _ c.define.ensures) }
+    record { value = c.find.ensures.value ∙ ap (λ l. place 0 c.args.name (map ident_of l)) (c.of-params.ensures ∙ ap (λ k. part_of k c.define.result.params) c.deref.ensures.value) ∙ ap (λ m. place 0 c.args.name (map ident_of m.params)) (meant (vec_items s.kept) (vec_items s.table) c.args.handle _ c.define.ensures) }
