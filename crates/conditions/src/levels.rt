@@ -1,17 +1,32 @@
 // An atom, a unary operator and the ten binary levels, a function each, as is a form of the project. `depth` counts the parentheses open and the unary operators that lack their operand;
 // it goes by value, so that no way out has to set it back.
-ghost use Rattle.std.specs.Prelude.{◌<◌};
+ghost use Rattle.std.specs.Prelude.{◌≡◌, ◌+◌, ◌<◌, IfOk};
 ghost use Rattle.conditions.specs.Looks.{remains, Ready, Looked, Took};
 
 use crate::evaluator::Evaluator;
 use books::Feed;
 use operators::{Level, sign_of};
 use tokens::fault::{Fault, Layer, PreprocessorError};
+use tokens::location::Location;
 use tokens::punct::Punct;
 use tokens::token::TokenValue;
 
 // At most this many parentheses and unary operators are open.
 pub const DEPTH: u32 = 64;
+
+// One more is open, unless as many are as may be.
+fn deeper(depth: u32, location: Location) -> Result<u32, Fault>
+    ensures { IfOk result (λ d. (d ≡ depth + 1) × (depth < 64)) }
+{
+    if depth >= DEPTH {
+        return Err(Fault::new(
+            PreprocessorError::ConditionTooDeep,
+            location,
+            Layer::Conditions,
+        ));
+    }
+    Ok(depth + 1)
+}
 
 #[tactic(auto, using(crate::proofs::Looking::none_looked, crate::proofs::Looking::then_looked))]
 impl<'a, F: Feed> Evaluator<'a, F> {
@@ -36,14 +51,7 @@ impl<'a, F: Feed> Evaluator<'a, F> {
             TokenValue::Ident(_) => self.handle_defined(),
             TokenValue::Integer(int) => Ok(int.value.cast_signed()),
             TokenValue::Punct(Punct::LeftParen) => {
-                if depth >= DEPTH {
-                    return Err(Fault::new(
-                        PreprocessorError::ConditionTooDeep,
-                        x.location,
-                        Layer::Conditions,
-                    ));
-                }
-                let v = self.logical_or(depth + 1)?;
+                let v = self.logical_or(deeper(depth, x.location)?)?;
                 self.close()?;
                 Ok(v)
             }
@@ -62,14 +70,7 @@ impl<'a, F: Feed> Evaluator<'a, F> {
             return self.atom(depth);
         };
         self.take();
-        if depth >= DEPTH {
-            return Err(Fault::new(
-                PreprocessorError::ConditionTooDeep,
-                x.location,
-                Layer::Conditions,
-            ));
-        }
-        let v = self.unary(depth + 1)?;
+        let v = self.unary(deeper(depth, x.location)?)?;
         self.parser.apply_sign(sign, v)
     }
 

@@ -33,11 +33,18 @@ impl IfParser {
                     signed: true,
                     width: 64,
                 }),
-                location: x.location,
+                ..x
             })
         } else {
             Err(Fault::unexpected(x, Layer::Conditions))
         }
+    }
+
+    // The token that a look found is taken.
+    pub fn take(&mut self)
+        ensures { self.new ≡ taken self.old }
+    {
+        self.carry = None;
     }
 
     // A fault at the directive's word.
@@ -142,7 +149,7 @@ impl<'a, F: Feed> Evaluator<'a, F> {
         ensures lexer { self.new.lexer.now ≡ self.old.lexer.now }
         ensures meter { self.new.meter.now ≡ self.old.meter.now }
     {
-        self.parser.carry = None;
+        self.parser.take();
     }
 
     pub fn expect_raw_next(&mut self) -> Result<Token, Fault>

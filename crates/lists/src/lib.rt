@@ -2,4 +2,4 @@
 #![tactic(auto)]
 
 pub mod list;
-pub mod spelling;
+mod spelling;

@@ -12,26 +12,33 @@ use tokens::fault::Refusal;
 // What a program grants.
 pub const MOVES: u64 = 1_000_000;
 
-// Every token that passes, then the end or the fault.
+// Every token that passes, then the end or the fault; each line is written whole.
 fn list_run<S: Source, W: Write>(
+    heap: Global,
     names: &Names,
     run: &mut Preprocessor<S>,
     out: &mut W,
 ) -> io::Result<()> {
+    let mut line = Vec::new(heap);
     loop {
+        line.clear();
         match run.next() {
-            Ok(Some(token)) => write_token(names, token, out)?,
+            Ok(Some(token)) => write_token(names, token, &mut line)?,
             Ok(None) => return out.write_all(b"end\n"),
-            Err(fault) => return writeln!(out, "{fault}"),
+            Err(fault) => {
+                writeln!(line, "{fault}")?;
+                return out.write_all(&line);
+            }
         }
+        out.write_all(&line)?;
     }
 }
 
 // Want of memory ends the listing with an error; every other refusal is a line.
-fn list_refusal<W: Write>(refusal: Refusal, out: &mut W) -> io::Result<()> {
+fn list_refusal<W: Write>(heap: Global, refusal: Refusal, out: &mut W) -> io::Result<()> {
     match refusal {
         Refusal::Memory => Err(AllocError.into()),
-        _ => writeln!(out, "{refusal}"),
+        _ => out.write_all(format!(in heap; "{refusal}\n")?.as_bytes()),
     }
 }
 
@@ -39,13 +46,13 @@ fn list_refusal<W: Write>(refusal: Refusal, out: &mut W) -> io::Result<()> {
 pub fn list<W: Write>(heap: Global, file: &[u8], moves: u64, out: &mut W) -> io::Result<()> {
     let mut names = match Names::new(heap) {
         Ok(names) => names,
-        Err(refusal) => return list_refusal(refusal, out),
+        Err(refusal) => return list_refusal(heap, refusal, out),
     };
     match TokenFile::read(heap, file, &mut names) {
         Ok(source) => {
             let mut run = Preprocessor::new(heap, source, moves)?;
-            list_run(&names, &mut run, out)
+            list_run(heap, &names, &mut run, out)
         }
-        Err(refusal) => list_refusal(refusal, out),
+        Err(refusal) => list_refusal(heap, refusal, out),
     }
 }

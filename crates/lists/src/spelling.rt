@@ -18,7 +18,7 @@ fn write_value<W: Write>(names: &Names, value: TokenValue, out: &mut W) -> io::R
 }
 
 // The source line, a space, the spelling, a line end.
-pub fn write_token<W: Write>(names: &Names, token: Token, out: &mut W) -> io::Result<()> {
+pub(crate) fn write_token<W: Write>(names: &Names, token: Token, out: &mut W) -> io::Result<()> {
     let line = token.location.line;
     write!(out, "{line} ")?;
     write_value(names, token.value, out)?;

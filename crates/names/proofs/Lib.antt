@@ -3,3 +3,4 @@ pub mod Tables
 pub mod Cuts
 pub mod Numbers
 pub mod Words
+pub mod Growth

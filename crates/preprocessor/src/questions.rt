@@ -18,7 +18,7 @@ fn part_of(value: TokenValue) -> Part
         TokenValue::Version(v) => v.tokens,
         TokenValue::Extension(e) => e.tokens,
         TokenValue::Pragma(p) => p.tokens,
-        _ => Part { start: 0, len: 0 },
+        _ => Part::default(),
     }
 }
 

@@ -16,7 +16,7 @@ impl Blocks {
     pub fn new(heap: Global) -> Result<Blocks, AllocError>
         ensures { IfOk result (λ b. (b.stack.items ≡ []) × (b.skipping ≡ false)) }
     {
-        let stack = Vec::with_capacity(heap, 64)?;
+        let stack = Vec::with_capacity(heap, MAX_BLOCKS)?;
         Ok(Blocks {
             stack,
             skipping: false,

@@ -17,7 +17,7 @@ impl Span {
         if self.from < self.to {
             Span {
                 from: self.from + 1,
-                to: self.to,
+                ..self
             }
         } else {
             self

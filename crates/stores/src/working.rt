@@ -19,8 +19,8 @@ impl Meter {
     pub fn new(heap: Global, budget: u64) -> Result<Meter, AllocError>
         ensures { IfOk result (λ m. tank m ≡ fresh budget) }
     {
-        let working = Vec::with_capacity(heap, 2048)?;
-        let building = Vec::with_capacity(heap, 2048)?;
+        let working = Vec::with_capacity(heap, WORKING)?;
+        let building = Vec::with_capacity(heap, WORKING)?;
         Ok(Meter {
             moves: 0,
             budget,

@@ -1,7 +1,8 @@
 // The book that the definitions are.
 ghost use Rattle.std.specs.Prelude.{◌≡◌, ◌+◌, ◌<◌, ◌≤◌, vec_len, slice_index_or};
 ghost use Rattle.std.specs.List.{slice_get};
-ghost use Rattle.defines.specs.Parts.{part_of, key_of, vacant};
+ghost use Rattle.books.specs.Book.{mean};
+ghost use Rattle.defines.specs.Parts.{part_of, entry, key_of, vacant};
 ghost use Rattle.defines.specs.Held.{held};
 ghost use Rattle.defines.specs.Sounds.{held_sound};
 
@@ -24,7 +25,8 @@ impl Named for Define {
 impl Defines {
     // An empty definition out of force where no definition has the handle.
     pub(super) fn define(&self, handle: Handle) -> Define
-        ensures { result ≡ slice_index_or self.now.table.items handle vacant }
+        ensures value { result ≡ slice_index_or self.now.table.items handle vacant }
+        ensures means { (entry self.now.kept.items result).def ≡ mean (held self.now) handle }
     {
         self.table.get(handle).copied().unwrap_or_default()
     }

@@ -36,12 +36,11 @@ fn missing_line_end(last: Option<LexerToken>, closing: Closing) -> Option<LexerT
         value: LexerTokenValue::NewLine,
         location: Location {
             start: token.location.end,
-            end: token.location.end,
-            line: token.location.line,
+            ..token.location
         },
         leading_whitespace: false,
         start_of_line: false,
-        had_comments: token.had_comments,
+        ..token
     })
 }
 

@@ -7,4 +7,4 @@ pub returns : goal.returns
 unfolding held
 returns c =
     let s = c.args.self.now in
-    record { value = arity_of (vec_items s.kept) (vec_items s.table) c.args.handle _ c.define.ensures s.mark s.within (omega (arith, s.ordered, s.inside, s.kept.ok.0)) }
+    record { value = arity_of (vec_items s.kept) (vec_items s.table) c.args.handle _ c.define.ensures.value s.mark s.within (omega (arith, s.ordered, s.inside, s.kept.ok.0)) }

@@ -7,4 +7,4 @@ pub returns : goal.returns
 unfolding held
 returns c =
     let s = c.args.self.now in
-    record { value = ap (λ m. m.function) (meant (vec_items s.kept) (vec_items s.table) c.args.handle _ c.define.ensures) }
+    record { value = ap (λ m. m.function) c.define.ensures.means }

@@ -10,4 +10,4 @@ pub returns : goal.returns
 unfolding held
 returns c =
     let s = c.args.self.now in
-    record { value = c.find.ensures.value ∙ ap (λ l. place 0 c.args.name (map ident_of l)) (c.of-params.ensures ∙ ap (λ k. part_of k c.define.result.params) c.deref.ensures.value) ∙ ap (λ m. place 0 c.args.name (map ident_of m.params)) (meant (vec_items s.kept) (vec_items s.table) c.args.handle _ c.define.ensures) }
+    record { value = c.find.ensures.value ∙ ap (λ l. place 0 c.args.name (map ident_of l)) (c.of-params.ensures ∙ ap (λ k. part_of k c.define.result.params) c.deref.ensures.value) ∙ ap (λ m. place 0 c.args.name (map ident_of m.params)) c.define.ensures.means }

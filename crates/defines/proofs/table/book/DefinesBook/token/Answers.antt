@@ -8,4 +8,4 @@ pub returns : goal.returns
 unfolding held
 returns c =
     let s = c.args.self.now in
-    record { value = c.part_token.ensures ∙ ap (λ m. slice_get m.body c.args.at) (meant (vec_items s.kept) (vec_items s.table) c.args.handle _ c.define.ensures) }
+    record { value = c.part_token.ensures ∙ ap (λ m. slice_get m.body c.args.at) c.define.ensures.means }
