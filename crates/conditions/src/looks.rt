@@ -80,7 +80,7 @@ impl<'a, F: Feed> Evaluator<'a, F> {
         if let Some(x) = self.parser.carry.take() {
             return Ok(Some(x));
         }
-        match self.parser.processor.raw_step(self.lexer, self.meter) {
+        match self.expander().raw_step() {
             Ok(x) => Ok(Some(x)),
             Err(StepExit::Error(f)) if matches!(f.error, PreprocessorError::MovesSpent) => Err(f),
             Err(_) => Ok(None),
@@ -93,9 +93,7 @@ impl<'a, F: Feed> Evaluator<'a, F> {
         ensures looked { Looked F.Book.defs self.old self.new }
         ensures carry { self.new.parser.now.carry ≡ self.old.parser.now.carry }
     {
-        self.parser
-            .processor
-            .start_define_invocation(x, name, self.lexer, self.meter)
+        self.expander().start_define_invocation(x, name)
     }
 
     // The next token, where names of macros are started.
