@@ -21,12 +21,12 @@ pub fn after_steps<F: Feed>(
 {
     let mut meter = Meter::new(heap, budget)?;
     let mut processor = MacroProcessor::new(heap)?;
+    let mut expander = Expander {
+        processor: &mut processor,
+        feed,
+        meter: &mut meter,
+    };
     for _ in 0..count {
-        let mut expander = Expander {
-            processor: &mut processor,
-            feed,
-            meter: &mut meter,
-        };
         let _ = expander.step();
     }
     Ok(processor)

@@ -1,7 +1,7 @@
 // A move, a turn and a step of the processor over any feed.
 ghost use Rattle.std.specs.Prelude.{◌≡◌, ℕ, ◌+◌, ◌<◌, ◌≤◌, OnOk};
 ghost use Rattle.stores.specs.Tank.{tank};
-ghost use Rattle.expansion.specs.Expanders.{Ready, Expanded};
+ghost use Rattle.expansion.specs.Steps.{Ready, Stepped};
 ghost use Rattle.expansion.specs.Moved.{Pays, PaysFor};
 
 use crate::expander::Expander;
@@ -11,11 +11,11 @@ use tokens::fault::{Fault, Layer, Step};
 use tokens::token::{Integer, Token, TokenValue};
 use tokens::words::LINE_MACRO;
 
-#[tactic(auto, using(crate::proofs::Expanding::none_expanded, crate::proofs::Expanding::then_expanded))]
+#[tactic(auto, using(crate::proofs::Stepping::none_stepped, crate::proofs::Stepping::then_stepped))]
 impl<'a, F: Feed> Expander<'a, F> {
     // The top macro is read on, or else the input: of level 0 the feed, of a deeper level the argument that it expands.
     fn step_internal(&mut self) -> Step<Token>
-        ensures { Expanded F.Book.defs self.old self.new }
+        ensures { Stepped F.Book.defs self.old self.new }
     {
         let processor = &mut *self.processor;
         if processor.is_expanding_define() {
@@ -55,7 +55,7 @@ impl<'a, F: Feed> Expander<'a, F> {
 
     // One move, if one is granted: what was held back is met first.
     pub fn move_on(&mut self) -> Result<Step<Token>, Fault>
-        ensures moved { Expanded F.Book.defs self.old self.new }
+        ensures stepped { Stepped F.Book.defs self.old self.new }
         ensures pays { OnOk result (self.old.meter.now.moves < self.new.meter.now.moves) }
     {
         self.meter
@@ -72,7 +72,7 @@ impl<'a, F: Feed> Expander<'a, F> {
     // One turn: a move, and what the phase makes of it. No answer means that the step goes on.
     fn turn(&mut self) -> Option<Step<Token>>
         requires { Ready F.Book.defs self.old }
-        ensures moved { Expanded F.Book.defs self.old self.new }
+        ensures stepped { Stepped F.Book.defs self.old self.new }
         ensures pays { Pays result (tank self.old.meter.now) (tank self.new.meter.now) }
     {
         match self.move_on() {
@@ -84,7 +84,7 @@ impl<'a, F: Feed> Expander<'a, F> {
     // One step: turns, until one of them answers.
     pub fn step(&mut self) -> Step<Token>
         requires { Ready F.Book.defs self.old }
-        ensures moved { Expanded F.Book.defs self.old self.new }
+        ensures stepped { Stepped F.Book.defs self.old self.new }
         ensures pays { PaysFor result (tank self.old.meter.now) (tank self.new.meter.now) }
     {
         loop {

@@ -4,8 +4,8 @@ use Rattle.expansion.specs.Processor.{view}
 use Rattle.expansion.proofs.Motions.{charged_moved, then_moved}
 use Rattle.expansion.proofs.expander.Expander.move_on.Goals as goal
 
-pub returns-clause-moved : goal.returns-clause-moved
-returns-clause-moved g c =
+pub returns-clause-stepped : goal.returns-clause-stepped
+returns-clause-stepped g c =
     let s = c.args.self.now in
     let e = c.step_internal-step.ensures in
     let test : nat_lt s.meter.now.moves s.meter.now.budget ≡ true = cc (c.spend.ensures.test, c.in_ok-map_err.ensures.variant) in

@@ -19,7 +19,7 @@ returns-in-Some g c = record {
 pub returns-in-None : goal.returns-in-None
 returns-in-None g c =
     let s = c.args.self.now in
-    let e = c.step.ensures.moved in
+    let e = c.step.ensures.stepped in
     record {
       moved =
           then_moved _ _ _ _ _ _ _ (tank c.begin.new.meter) _
