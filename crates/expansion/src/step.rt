@@ -58,9 +58,7 @@ impl<'a, F: Feed> Expander<'a, F> {
         ensures stepped { Stepped F.Book.defs self.old self.new }
         ensures pays { OnOk result (self.old.meter.now.moves < self.new.meter.now.moves) }
     {
-        self.meter
-            .spend()
-            .map_err(|error| Fault::new(error, self.feed.place(), Layer::Expansion))?;
+        self.meter.spend().map_err(|error| Fault::new(error, self.feed.place(), Layer::Expansion))?;
         if let Phase::Held(step) = self.processor.phase {
             self.processor.phase = Phase::Plain;
             return Ok(step);
