@@ -1,10 +1,13 @@
 -- How steps compose.
 use Rattle.std.proofs.Common.{refl, ◌∙◌}
 use Rattle.stores.specs.Tank.{tank}
+use Rattle.stores.specs.declared.meter.Meter.{Meter}
 use Rattle.books.specs.Book.{Defs}
 use Rattle.expansion.specs.Processor.{view}
+use Rattle.expansion.specs.Moved.{Moved}
 use Rattle.expansion.specs.Steps.{Stepped}
 use Rattle.expansion.specs.declared.expander.Expander.{Expander}
+use Rattle.expansion.specs.declared.processor.MacroProcessor.{MacroProcessor}
 use Rattle.expansion.proofs.Motions.{none_moved, then_moved}
 
 pub none_stepped : {F : Type 0} {defs : F → Defs} {s : Expander F} → Stepped defs s s
@@ -17,3 +20,10 @@ then_stepped {F} {defs} {s} {t} {u} a b = record {
   feed = b.feed ∙ a.feed;
   meter = b.meter ∙ a.meter;
 }
+
+-- s where other values have come behind its loans
+abbrev pub lent : {F : Type 0} → Expander F → MacroProcessor → F → Meter → Expander F
+lent s p f m = record { processor = record s.processor { now = p }; feed = record s.feed { now = f }; meter = record s.meter { now = m } }
+
+pub lent_stepped : {F : Type 0} {defs : F → Defs} (s : Expander F) {p : MacroProcessor} {f : F} {m : Meter} → Moved (defs s.feed.now) (view s.processor.now) (tank s.meter.now) (defs f) (view p) (tank m) → Stepped defs s (lent s p f m)
+lent_stepped s w = record { moved = w; processor = refl; feed = refl; meter = refl }
