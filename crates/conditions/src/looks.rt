@@ -8,6 +8,7 @@ ghost use Rattle.operators.specs.Calc.{calc, signed, flag};
 use crate::evaluator::Evaluator;
 use crate::if_parser::IfParser;
 use books::{Book, Feed};
+use expansion::expander::Expander;
 use operators::{Level, Sign, apply, apply_sign, level_of};
 use tokens::fault::{Fault, Layer, PreprocessorError, Step, StepExit};
 use tokens::punct::Punct;
@@ -87,7 +88,12 @@ impl<'a, F: Feed> Evaluator<'a, F> {
         if let Some(x) = self.parser.carry.take() {
             return Ok(Some(x));
         }
-        match self.parser.processor.raw_step(self.lexer, self.meter) {
+        let mut expander = Expander {
+            processor: &mut self.parser.processor,
+            feed: self.lexer,
+            meter: self.meter,
+        };
+        match expander.raw_step() {
             Ok(x) => Ok(Some(x)),
             Err(StepExit::Error(f)) if matches!(f.error, PreprocessorError::MovesSpent) => Err(f),
             Err(_) => Ok(None),
@@ -100,9 +106,12 @@ impl<'a, F: Feed> Evaluator<'a, F> {
         ensures looked { Looked F.Book.defs self.old self.new }
         ensures carry { self.new.parser.now.carry ≡ self.old.parser.now.carry }
     {
-        self.parser
-            .processor
-            .start_define_invocation(x, name, self.lexer, self.meter)
+        let mut expander = Expander {
+            processor: &mut self.parser.processor,
+            feed: self.lexer,
+            meter: self.meter,
+        };
+        expander.start_define_invocation(x, name)
     }
 
     // The next token, where names of macros are started.

@@ -5,3 +5,4 @@ pub mod Places
 pub mod Meets
 pub mod Fronts
 pub mod Motions
+pub mod Stepping

@@ -4,3 +4,4 @@ pub mod Arguments
 pub mod Phases
 pub mod Sane
 pub mod Moved
+pub mod Steps

@@ -2,6 +2,7 @@
 #![tactic(auto)]
 
 pub mod delimiter;
+pub mod expander;
 pub mod invocation;
 pub mod look;
 pub mod moves;

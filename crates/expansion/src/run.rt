@@ -2,6 +2,7 @@
 ghost use Rattle.std.specs.Prelude.{IfOk};
 ghost use Rattle.expansion.specs.Sane.{Lawful};
 
+use crate::expander::Expander;
 use crate::processor::MacroProcessor;
 use books::Feed;
 use std::alloc::{AllocError, Global};
@@ -20,8 +21,13 @@ pub fn after_steps<F: Feed>(
 {
     let mut meter = Meter::new(heap, budget)?;
     let mut processor = MacroProcessor::new(heap)?;
+    let mut expander = Expander {
+        processor: &mut processor,
+        feed,
+        meter: &mut meter,
+    };
     for _ in 0..count {
-        let _ = processor.step(feed, &mut meter);
+        let _ = expander.step();
     }
     Ok(processor)
 }

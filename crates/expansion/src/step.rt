@@ -1,46 +1,45 @@
 // A move, a turn and a step of the processor over any feed.
 ghost use Rattle.std.specs.Prelude.{◌<◌, OnOk};
 ghost use Rattle.stores.specs.Tank.{tank};
-ghost use Rattle.expansion.specs.Processor.{view};
-ghost use Rattle.expansion.specs.Sane.{Holds};
-ghost use Rattle.expansion.specs.Moved.{Moved, Pays, PaysFor};
+ghost use Rattle.expansion.specs.Steps.{Ready, Stepped};
+ghost use Rattle.expansion.specs.Moved.{Pays, PaysFor};
 
+use crate::expander::Expander;
 use crate::invocation::Phase;
-use crate::processor::MacroProcessor;
 use books::Feed;
-use stores::meter::Meter;
 use tokens::fault::{Fault, Layer, Step};
 use tokens::token::{Integer, Token, TokenValue};
 use tokens::words::LINE_MACRO;
 
-// The feed and the meter stay two parameters: callers hold them apart, and `Feed::step` wants both as they are.
-impl MacroProcessor {
+#[tactic(auto, using(crate::proofs::Stepping::none_stepped, crate::proofs::Stepping::then_stepped))]
+impl<'a, F: Feed> Expander<'a, F> {
     // The top macro is read on, or else the input: of level 0 the feed, of a deeper level the argument that it expands.
-    fn step_internal<F: Feed>(&mut self, feed: &mut F, meter: &mut Meter) -> Step<Token>
-        ensures { Moved (F.Book.defs feed.old) (view self.old) (tank meter.old) (F.Book.defs feed.new) (view self.new) (tank meter.new) }
+    fn step_internal(&mut self) -> Step<Token>
+        ensures { Stepped F.Book.defs self.old self.new }
     {
-        if self.is_expanding_define() {
-            self.read_invocation(feed, meter)
-        } else if self.below.is_empty() {
-            feed.step(meter)
+        let processor = &mut *self.processor;
+        if processor.is_expanding_define() {
+            processor.read_invocation(self.feed, self.meter)
+        } else if processor.below.is_empty() {
+            self.feed.step(self.meter)
         } else {
-            self.read_input(meter)
+            processor.read_input(self.meter)
         }
     }
 
     // `__LINE__` becomes its number: inside a macro that macro's line, else the token's own. Only level 0 follows `#line`.
-    fn number_line<F: Feed>(&self, step: Step<Token>, feed: &F) -> Step<Token> {
+    fn number_line(&self, step: Step<Token>) -> Step<Token> {
         let token = step?;
         let TokenValue::Ident(LINE_MACRO) = token.value else {
             return Ok(token);
         };
-        let line = if self.is_expanding_define() {
-            self.level.line
+        let line = if self.processor.is_expanding_define() {
+            self.processor.level.line
         } else {
             token.location.line
         };
-        let shown = if self.below.is_empty() {
-            feed.apply_line_offset(line, token.location)?
+        let shown = if self.processor.below.is_empty() {
+            self.feed.apply_line_offset(line, token.location)?
         } else {
             line
         };
@@ -55,45 +54,39 @@ impl MacroProcessor {
     }
 
     // One move, if one is granted: what was held back is met first.
-    pub fn move_on<F: Feed>(
-        &mut self,
-        feed: &mut F,
-        meter: &mut Meter,
-    ) -> Result<Step<Token>, Fault>
-        ensures moved { Moved (F.Book.defs feed.old) (view self.old) (tank meter.old) (F.Book.defs feed.new) (view self.new) (tank meter.new) }
-        ensures pays { OnOk result (meter.old.moves < meter.new.moves) }
+    pub fn move_on(&mut self) -> Result<Step<Token>, Fault>
+        ensures stepped { Stepped F.Book.defs self.old self.new }
+        ensures pays { OnOk result (self.old.meter.now.moves < self.new.meter.now.moves) }
     {
-        meter
-            .spend()
-            .map_err(|error| Fault::new(error, feed.place(), Layer::Expansion))?;
-        if let Phase::Held(step) = self.phase {
-            self.phase = Phase::Plain;
+        self.meter.spend().map_err(|error| Fault::new(error, self.feed.place(), Layer::Expansion))?;
+        if let Phase::Held(step) = self.processor.phase {
+            self.processor.phase = Phase::Plain;
             return Ok(step);
         }
-        let step = self.step_internal(feed, meter);
-        Ok(self.number_line(step, feed))
+        let step = self.step_internal();
+        Ok(self.number_line(step))
     }
 
     // One turn: a move, and what the phase makes of it. No answer means that the step goes on.
-    fn turn<F: Feed>(&mut self, feed: &mut F, meter: &mut Meter) -> Option<Step<Token>>
-        requires { Holds (F.Book.defs feed.old) (view self.old) }
-        ensures moved { Moved (F.Book.defs feed.old) (view self.old) (tank meter.old) (F.Book.defs feed.new) (view self.new) (tank meter.new) }
-        ensures pays { Pays result (tank meter.old) (tank meter.new) }
+    fn turn(&mut self) -> Option<Step<Token>>
+        requires { Ready F.Book.defs self.old }
+        ensures stepped { Stepped F.Book.defs self.old self.new }
+        ensures pays { Pays result (tank self.old.meter.now) (tank self.new.meter.now) }
     {
-        match self.move_on(feed, meter) {
-            Ok(met) => self.meet(met, feed, meter),
+        match self.move_on() {
+            Ok(met) => self.processor.meet(met, self.feed, self.meter),
             Err(fault) => Some(Err(fault.into())),
         }
     }
 
     // One step: turns, until one of them answers.
-    pub fn step<F: Feed>(&mut self, feed: &mut F, meter: &mut Meter) -> Step<Token>
-        requires { Holds (F.Book.defs feed.old) (view self.old) }
-        ensures moved { Moved (F.Book.defs feed.old) (view self.old) (tank meter.old) (F.Book.defs feed.new) (view self.new) (tank meter.new) }
-        ensures pays { PaysFor result (tank meter.old) (tank meter.new) }
+    pub fn step(&mut self) -> Step<Token>
+        requires { Ready F.Book.defs self.old }
+        ensures stepped { Stepped F.Book.defs self.old self.new }
+        ensures pays { PaysFor result (tank self.old.meter.now) (tank self.new.meter.now) }
     {
         loop {
-            if let Some(answer) = self.turn(feed, meter) {
+            if let Some(answer) = self.turn() {
                 return answer;
             }
         }

@@ -8,6 +8,7 @@ ghost use Rattle.preprocessor.specs.Runs.{spent_of, book_of, in_expansion, Repea
 
 use crate::state::Preprocessor;
 use directives::processor::DirectiveProcessor;
+use expansion::expander::Expander;
 use expansion::processor::MacroProcessor;
 use sources::source::Source;
 use std::alloc::{AllocError, Global};
@@ -44,7 +45,12 @@ impl<S: Source> Preprocessor<S> {
         if self.processor.invocations.is_empty() {
             self.meter.clear();
         }
-        self.processor.step(&mut self.directives, &mut self.meter)
+        let mut expander = Expander {
+            processor: &mut self.processor,
+            feed: &mut self.directives,
+            meter: &mut self.meter,
+        };
+        expander.step()
     }
 
     // The next token, or none at the end. A fault, once answered, is answered again.

@@ -1,6 +1,6 @@
-use Rattle.expansion.specs.Processor.{view}
-use Rattle.expansion.specs.Sane.{Holds}
+use Rattle.std.proofs.Common.{◌≡◌}
+use Rattle.expansion.specs.Steps.{Ready}
 use Rattle.expansion.proofs.run.after_steps.Given as goal
 
 abbrev pub invariant-loop : goal.invariant-loop
-invariant-loop g l = Holds (g.F.Book.defs l.feed) (view l.processor)
+invariant-loop g l = Ready g.F.Book.defs l.expander × (l.expander.processor.ghost_name ≡ l.initial.expander.processor.ghost_name) × (l.expander.feed.ghost_name ≡ l.initial.expander.feed.ghost_name)
