@@ -15,7 +15,7 @@ impl<'a, F: Feed> Expander<'a, F> {
         ensures stepped { Stepped F.Book.defs self.old self.new }
         ensures pays { PaysFor result (tank self.old.meter.now) (tank self.new.meter.now) }
     {
-        self.move_on()?
+        self.paid_move()?
     }
 
     // A name passes, and its token is the answer; or it starts an expansion, and the answer is to go on.

@@ -53,18 +53,25 @@ impl<'a, F: Feed> Expander<'a, F> {
         })
     }
 
-    // One move, if one is granted: what was held back is met first.
-    pub fn move_on(&mut self) -> Result<Step<Token>, Fault>
+    // One move, once it is granted: what was held back is met first.
+    pub fn move_on(&mut self) -> Step<Token>
+        ensures { Stepped F.Book.defs self.old self.new }
+    {
+        if let Phase::Held(step) = self.processor.phase {
+            self.processor.phase = Phase::Plain;
+            return step;
+        }
+        let step = self.step_internal();
+        self.number_line(step)
+    }
+
+    // One move, if one is granted.
+    pub(crate) fn paid_move(&mut self) -> Result<Step<Token>, Fault>
         ensures stepped { Stepped F.Book.defs self.old self.new }
         ensures pays { OnOk result (self.old.meter.now.moves < self.new.meter.now.moves) }
     {
         self.meter.spend().map_err(|error| Fault::new(error, self.feed.place(), Layer::Expansion))?;
-        if let Phase::Held(step) = self.processor.phase {
-            self.processor.phase = Phase::Plain;
-            return Ok(step);
-        }
-        let step = self.step_internal();
-        Ok(self.number_line(step))
+        Ok(self.move_on())
     }
 
     // One turn: a move, and what the phase makes of it. No answer means that the step goes on.
@@ -73,7 +80,7 @@ impl<'a, F: Feed> Expander<'a, F> {
         ensures stepped { Stepped F.Book.defs self.old self.new }
         ensures pays { Pays result (tank self.old.meter.now) (tank self.new.meter.now) }
     {
-        match self.move_on() {
+        match self.paid_move() {
             Ok(met) => self.processor.meet(met, self.feed, self.meter),
             Err(fault) => Some(Err(fault.into())),
         }
