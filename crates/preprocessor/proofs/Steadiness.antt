@@ -1,13 +1,15 @@
 -- The facts that a run's type carries are the invariant of its macros in expansion.
-use Rattle.std.proofs.Common.{◌≡◌, ℕ, zero, suc, ◌<◌, true, ◌⊎◌, List, length, get_or, Some, refl, subst, inl, inr, ⊎_elim, arith}
+use Rattle.std.proofs.Common.{◌≡◌, ℕ, zero, suc, ◌<◌, true, ◌⊎◌, List, length, get_or, vec_items, Some, refl, subst, inl, inr, ⊎_elim, arith}
 use Rattle.books.specs.Book.{Defs, has, InForce}
 use Rattle.expansion.specs.declared.invocation.DefineInvocation.{DefineInvocation}
 use Rattle.expansion.specs.declared.invocation.Callee.{Callee}
 use Rattle.expansion.specs.declared.invocation.Pending.{Pending}
 use Rattle.expansion.specs.declared.invocation.Phase.{Phase}
 use Rattle.expansion.specs.declared.invocation.Phase.TheVariants.{Plain, Held, Met, Gather}
-use Rattle.expansion.specs.Processor.{idle}
-use Rattle.expansion.specs.Sane.{Free, FreeOf, Sane, Waits}
+use Rattle.defines.specs.Held.{held}
+use Rattle.expansion.specs.Processor.{view, idle}
+use Rattle.expansion.specs.Sane.{Free, FreeOf, Sane, Holds, Waits}
+use Rattle.preprocessor.specs.declared.state.Preprocessor.{Preprocessor}
 use Rattle.preprocessor.specs.Steady.{Apart, Borne, Forced, Within, Rising, Known, Unused, Allowed, CallsKnown, CallsUnused, CallsAllowed, waiting, WaitsKnown, WaitsUnused, WaitsAllowed}
 
 enters : (d : Defs) (us : List DefineInvocation) (e : ℕ) (w : Callee) → Known d w → Unused us e w → Allowed d e w → Free d us e w.handle w.name
@@ -78,3 +80,7 @@ module _ (d : Defs) (us : List DefineInvocation) (bs : List Pending) where
         fresh = λ v e. (w v e).free;
         force = λ v e. allows d (length us) v.name (w v e).force;
       }
+
+-- the invariant of a run, from its type
+pub steady_of : {S : Type 0} (s : Preprocessor S) → Holds (held s.directives.defines) (view s.processor)
+steady_of s = steady (held s.directives.defines) (vec_items s.processor.invocations) (vec_items s.processor.below) s.processor.phase s.apart s.borne s.forced s.within s.rising s.calls s.unused s.allowed s.known s.fresh s.force

@@ -3,7 +3,6 @@ use mathlib.Core.Bool.{beq}
 use Rattle.defines.specs.Parts.{part_of, entry}
 use Rattle.defines.specs.Held.{held, parameters, replacement}
 use Rattle.defines.specs.Values.{token_lists_agree, legal}
-use Rattle.defines.proofs.Meanings.{meant}
 use Rattle.defines.proofs.Sames.{other_kind, other_params, by_body, is_true, is_false, parts_told, rests_told}
 use Rattle.defines.proofs.table.Defines.legal_redefinition.Goals as goal
 

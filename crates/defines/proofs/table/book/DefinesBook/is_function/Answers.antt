@@ -1,5 +1,4 @@
-use Rattle.std.proofs.Common.{vec_items, ap}
-use Rattle.defines.proofs.Meanings.{meant}
+use Rattle.std.proofs.Common.{ap}
 use Rattle.defines.specs.Held.{held}
 use Rattle.defines.proofs.table.book.DefinesBook.is_function.Goals as goal
 

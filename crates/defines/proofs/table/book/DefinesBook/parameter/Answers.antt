@@ -1,7 +1,6 @@
-use Rattle.std.proofs.Common.{map, vec_items, ap, ◌∙◌}
+use Rattle.std.proofs.Common.{map, ap, ◌∙◌}
 use Rattle.stores.specs.Places.{place}
 use Rattle.stores.specs.Idents.{ident_of}
-use Rattle.defines.proofs.Meanings.{meant}
 use Rattle.defines.specs.Parts.{part_of}
 use Rattle.defines.specs.Held.{held}
 use Rattle.defines.proofs.table.book.DefinesBook.parameter.Goals as goal

@@ -1,6 +1,5 @@
-use Rattle.std.proofs.Common.{vec_items, ap, ◌∙◌}
+use Rattle.std.proofs.Common.{ap, ◌∙◌}
 use Rattle.std.specs.List.{slice_get}
-use Rattle.defines.proofs.Meanings.{meant}
 use Rattle.defines.specs.Held.{held}
 use Rattle.defines.proofs.table.book.DefinesBook.token.Goals as goal
 
