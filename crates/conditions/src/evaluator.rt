@@ -2,6 +2,7 @@
 use crate::if_parser::IfParser;
 use stores::meter::Meter;
 
+// `Ready` is asked by each method: a ghost field must be a proposition, and the invariant of macros is none.
 #[derive(Drop)]
 pub struct Evaluator<'a, F> {
     pub parser: &'a mut IfParser,

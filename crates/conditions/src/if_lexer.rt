@@ -2,7 +2,8 @@
 ghost use Rattle.std.specs.Prelude.{◌≡◌};
 ghost use Rattle.stores.specs.Tank.{tank, Spends, read};
 ghost use Rattle.books.specs.Book.{Grown};
-ghost use Rattle.conditions.specs.Lexer.{lexed, lexed_on};
+ghost use Rattle.stores.specs.Spans.{passed};
+ghost use Rattle.conditions.specs.Lexer.{lexed};
 
 use books::{Book, Feed, Handle};
 use stores::meter::Meter;
@@ -51,11 +52,9 @@ impl<'a, B: Book> Feed for IfLexer<'a, B> {
         ensures handles { Grown (B.Book.defs self.old.book.now) (B.Book.defs self.new.book.now) }
         ensures stores { Spends (tank meter.old) (tank meter.new) }
         ensures value { result ≡ lexed (read meter.old.working.items self.old.tokens) }
-        ensures after { self.new.tokens ≡ lexed_on (read meter.old.working.items self.old.tokens) self.old.tokens }
+        ensures after { self.new.tokens ≡ passed (read meter.old.working.items self.old.tokens) self.old.tokens }
     {
-        let token = meter.read(self.tokens).ok_or(StepExit::Finished)?;
-        self.tokens = self.tokens.onward();
-        Ok(token)
+        meter.next(&mut self.tokens).ok_or(StepExit::Finished)
     }
 
     fn place(&self) -> Location {

@@ -45,6 +45,7 @@ impl MacroProcessor {
         requires { 0 < vec_len self.old.invocations }
         ensures { Read (in_use (top (self.old.invocations.items)).reading (B.Book.defs book.now) meter.now.working.items self.old.invocations.items self.old.arguments.items) (view self.old) result (view self.new) }
     {
+        // by its place, as `argument` reads the processor before the top changes
         let n = self.invocations.len();
         let u = self.invocations[n - 1];
         if let Some(s) = u.reading {
@@ -66,8 +67,6 @@ impl MacroProcessor {
         ensures value { result ≡ (in_input (read meter.now.working.items self.old.level.input) (view self.old)).0 }
         ensures after { view self.new ≡ (in_input (read meter.now.working.items self.old.level.input) (view self.old)).1 }
     {
-        let x = meter.read(self.level.input).ok_or(StepExit::Finished)?;
-        self.level.input = self.level.input.onward();
-        Ok(x)
+        meter.next(&mut self.level.input).ok_or(StepExit::Finished)
     }
 }

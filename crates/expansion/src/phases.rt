@@ -81,6 +81,7 @@ impl Call {
     }
 }
 
+// The book and the meter stay two parameters: the book is a loan of the feed, and most phases want only one of them.
 impl MacroProcessor {
     // Where the macros of the current level begin.
     pub fn base(&self) -> usize
@@ -271,7 +272,6 @@ impl MacroProcessor {
     }
 }
 
-// The book and the meter stay two parameters: the book is a loan of the feed, and most phases want only one of them.
 impl MacroProcessor {
     // A token of a call's arguments.
     fn gather<B: Book>(

@@ -2,6 +2,7 @@
 ghost use Rattle.std.specs.Prelude.{◌≡◌, ◌+◌, ◌<◌, ltb, length, is_ok, IfOk, IfErr, if◌then◌else◌, nat_lt};
 ghost use Rattle.tokens.specs.declared.fault.PreprocessorError.TheVariants.{WorkingTokensFull, MovesSpent};
 ghost use Rattle.std.specs.List.{slice_get};
+ghost use Rattle.stores.specs.Spans.{passed};
 ghost use Rattle.stores.specs.Tank.{tank, roomy, stored, built, shifted, whole, spending, emptied, cut, fresh, read};
 
 use crate::guard::Mark;
@@ -48,6 +49,16 @@ impl Meter {
         ensures { result ≡ read self.now.working.items s }
     {
         if s.from < s.to { self.at(s.from) } else { None }
+    }
+
+    // The token at the start of a part, taken off it.
+    pub fn next(&self, s: &mut Span) -> Option<Token>
+        ensures value { result ≡ read self.now.working.items s.old }
+        ensures after { s.new ≡ passed (read self.now.working.items s.old) s.old }
+    {
+        let x = self.read(*s)?;
+        *s = s.onward();
+        Some(x)
     }
 
     // A gathered token, unless the store is full.
