@@ -5,7 +5,7 @@ ghost use Rattle.defines.specs.Held.{held};
 ghost use Rattle.stores.specs.Places.{latest};
 ghost use Rattle.reading.specs.Blocks.{pushed};
 ghost use Rattle.directives.specs.Segments.{else_on, end_on, elif_on, decided, if_on};
-ghost use Rattle.directives.specs.Unchanged.{Weighed};
+ghost use Rattle.directives.specs.Unchanged.{Weighed, Worked};
 ghost use Rattle.conditions.specs.Looks.{Ready, Looked};
 
 use crate::processor::DirectiveProcessor;
@@ -70,8 +70,14 @@ impl<S: Source> DirectiveProcessor<S> {
         Ok(value != 0)
     }
 
-    // The rest of the line as a condition; what it took of the working store is given back.
-    fn condition(&mut self, location: Location, meter: &mut Meter) -> Step<bool>
+    // The rest of the line is gathered and worked on; what it took of the working store is given back.
+    fn over_line<T, F: FnOnce(&mut DirectiveProcessor<S>, Span, &mut Meter) -> Result<T, Fault>>(
+        &mut self,
+        meter: &mut Meter,
+        work: F,
+    ) -> Step<T>
+        requires callable { F.IsAlwaysCallable work }
+        requires works { (p : _) (s : _) (m : _) (r : _) (q : _) (n : _) → F.post work p s m r q n → Worked p.now q.now (tank m.now) (tank n.now) }
         ensures defs { held self.new.defines ≡ held self.old.defines }
         ensures stores { Spends (tank meter.old) (tank meter.new) }
         ensures segments { self.new.blocks ≡ self.old.blocks }
@@ -79,8 +85,20 @@ impl<S: Source> DirectiveProcessor<S> {
         let mark = meter.mark();
         let guard = Guard { meter, mark };
         let line = self.reader.gather_until_newline(guard.meter)?;
-        let holds = self.evaluate_if_expression(location, line, guard.meter);
-        holds.map_err(StepExit::Error)
+        let worked = work(self, line, guard.meter);
+        worked.map_err(StepExit::Error)
+    }
+
+    // The rest of the line as a condition.
+    fn condition(&mut self, location: Location, meter: &mut Meter) -> Step<bool>
+        ensures defs { held self.new.defines ≡ held self.old.defines }
+        ensures stores { Spends (tank meter.old) (tank meter.new) }
+        ensures segments { self.new.blocks ≡ self.old.blocks }
+    {
+        self.over_line(
+            meter,
+            |this, line, meter| this.evaluate_if_expression(location, line, meter),
+        )
     }
 
     // Whether the name behind `#ifdef` or `#ifndef` is in force.
@@ -275,10 +293,9 @@ impl<S: Source> DirectiveProcessor<S> {
         ensures stores { Spends (tank meter.old) (tank meter.new) }
         ensures segments { self.new.blocks ≡ self.old.blocks }
     {
-        let mark = meter.mark();
-        let guard = Guard { meter, mark };
-        let line = self.reader.gather_until_newline(guard.meter)?;
-        let read = self.evaluate_line(directive_location, line, guard.meter);
-        read.map_err(StepExit::Error)
+        self.over_line(
+            meter,
+            |this, line, meter| this.evaluate_line(directive_location, line, meter),
+        )
     }
 }

@@ -20,12 +20,7 @@ impl<S: Source> DirectiveProcessor<S> {
         let (name, name_location) = self.reader.expect_lexer_ident(directive_location)?;
         match self.reader.read_define(&mut self.defines) {
             Ok(function_like) => {
-                let accepted = accept_define(
-                    &mut self.defines,
-                    name,
-                    function_like,
-                    name_location,
-                );
+                let accepted = accept_define(&mut self.defines, name, function_like, name_location);
                 accepted.map_err(StepExit::Error)
             }
             Err(exit) => {
