@@ -1,9 +1,9 @@
--- A handle found for a name is one of the table, and bears that name.
+-- A handle found for a name is one of the table, and bears that name; a book grows from itself.
 use Rattle.std.specs.Prelude.{◌≡◌, ℕ, suc, ◌+◌, ◌-◌, ◌<◌, ◌≤◌, Bool, true, false, cond, List, [], ◌∷◌, length, drop, Some, ◌==◌, slice_index_or, refl}
 use Rattle.std.proofs.Common.{ap, subst, ◌∙◌, arith, eqb-true}
 use Rattle.std.proofs.lemmas.Bool.{both_ways}
 use Rattle.std.proofs.lemmas.List.{at_drop_more}
-use Rattle.books.specs.Book.{Entry, Defs, none, mean, hit, seek, find}
+use Rattle.books.specs.Book.{Entry, Defs, Grown, none, mean, hit, seek, find}
 
 -- a hit is in force under the name
 pub hit_is : (e : Entry) (n : ℕ) → hit e n ≡ true → (e.live ≡ true) × (e.def.name ≡ n)
@@ -43,3 +43,7 @@ module _ (es : List Entry) (i n : ℕ) (h : i < length es) where
 
   pub seek_miss : hit (slice_index_or es i none) n ≡ false → seek (drop i es) i n ≡ seek (drop (i + 1) es) (i + 1) n
   seek_miss e = seek_one ∙ ap (λ b. cond b (Some i) (seek (drop (i + 1) es) (i + 1) n)) e
+
+-- every handle of a book means there what it means
+pub grown_same : (d : Defs) → Grown d d
+grown_same d h l = (l, refl)

@@ -4,7 +4,7 @@ use Rattle.std.proofs.lemmas.List.{length-set, length_push, get_or-set_same, get
 use Rattle.std.proofs.lemmas.Bool.{both_ways, eq-eqb, cases_eq, cases_Bool}
 use Rattle.std.proofs.str.Laws.{order}
 use Rattle.books.specs.Book.{Entry, Defs, Sound, none, hit, seek, find, has, Grown, Kept}
-use Rattle.books.specs.Books.{hit_is, seek_at}
+use Rattle.books.specs.Books.{hit_is, seek_at, grown_same}
 use Rattle.defines.specs.Changes.{dead, cleared, without, entered, accepted}
 
 -- a search that finds nothing passes no hit
@@ -56,9 +56,6 @@ has_at (x ∷ xs) n h = both (has_at xs n) (hit x n) refl h
     both : (has xs n ≡ true → (k : ℕ) × ((k < length xs) × (hit (get_or xs k none) n ≡ true))) → (b : Bool) → hit x n ≡ b → cond b true (has xs n) ≡ true → (k : ℕ) × ((k < length (x ∷ xs)) × (hit (get_or (x ∷ xs) k none) n ≡ true))
     both g true e f = (0, (omega arith, e))
     both g false e f = let w = g f in (suc w.0, (omega (arith, w.1.0), w.1.1))
-
-pub grown_same : (d : Defs) → Grown d d
-grown_same d h l = (l, refl)
 
 pub grown_trans : (a b c : Defs) → Grown a b → Grown b c → Grown a c
 grown_trans a b c f g h l = let x = f h l in let y = g h x.0 in (y.0, y.1 ∙ x.1)

@@ -10,6 +10,7 @@ use Rattle.stores.specs.Places.{place}
 use Rattle.stores.specs.Idents.{ident_of}
 use Rattle.stores.specs.Tank.{Tank, spending, read}
 use Rattle.books.specs.Book.{Defs, mean, Grown}
+use Rattle.books.specs.Books.{grown_same}
 use Rattle.expansion.specs.declared.invocation.DefineInvocation.{DefineInvocation}
 use Rattle.expansion.specs.declared.invocation.Pending.{Pending}
 use Rattle.expansion.specs.Processor.{Proc, Answer, fresh, idle, top, base, expanding}
@@ -51,9 +52,6 @@ use_read None d ws us gs = by (slice_get (mean d (top us).handle).body (top us).
 -- all that waits ends below the macros of the current level
 ends_below : (d : Defs) (us : List DefineInvocation) (bs : List Pending) → Sane d us bs → (i : ℕ) → i < length bs → (get_or bs i idle).end ≤ base bs
 ends_below d us bs s i l = grind (arith, common_steps, s.rising i (length bs - 1))
-
-grown_same : (d : Defs) → Grown d d
-grown_same d h l = (l, refl)
 
 pub none_moved : (d : Defs) (p : Proc) (t : Tank) → Moved d p t d p t
 none_moved d p t = record { holds = λ h. h; went = still p p t refl refl; grown = grown_same d }

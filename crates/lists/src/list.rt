@@ -42,14 +42,17 @@ fn list_refusal<W: Write>(heap: Global, refusal: Refusal, out: &mut W) -> io::Re
     }
 }
 
+// The names and the tokens of a file.
+fn read(heap: Global, file: &[u8]) -> Result<(Names, TokenFile), Refusal> {
+    let mut names = Names::new(heap)?;
+    let source = TokenFile::read(heap, file, &mut names)?;
+    Ok((names, source))
+}
+
 // The listing of a token file under a budget of moves.
 pub fn list<W: Write>(heap: Global, file: &[u8], moves: u64, out: &mut W) -> io::Result<()> {
-    let mut names = match Names::new(heap) {
-        Ok(names) => names,
-        Err(refusal) => return list_refusal(heap, refusal, out),
-    };
-    match TokenFile::read(heap, file, &mut names) {
-        Ok(source) => {
+    match read(heap, file) {
+        Ok((names, source)) => {
             let mut run = Preprocessor::new(heap, source, moves)?;
             list_run(heap, &names, &mut run, out)
         }

@@ -2,11 +2,11 @@ use Rattle.std.proofs.Common.{◌≡◌, ◌-◌, ◌<◌, ◌≤◌, false, len
 use Rattle.std.proofs.lemmas.List.{length-take}
 use borrow.Author.Tests.{both_ways}
 use Rattle.books.specs.Book.{find, Kept}
+use Rattle.books.specs.Books.{grown_same}
 use Rattle.defines.specs.Changes.{made, entered, accepted}
-use Rattle.defines.specs.Entries.{entries_len}
 use Rattle.defines.specs.Held.{held, parameters, replacement}
-use Rattle.defines.specs.Sounds.{held_sound}
-use Rattle.defines.proofs.Removals.{without_len, grown_same, grown_is, grown_accepted, kept_accepted, found_accepted}
+use Rattle.defines.specs.Sounds.{held_sound, table_len}
+use Rattle.defines.proofs.Removals.{without_len, grown_is, grown_accepted, kept_accepted, found_accepted}
 use Rattle.defines.proofs.table.Defines.accept.Goals as goal
 
 pub returns-then-len-ge-MAX_DEFINES : goal.returns-then-len-ge-MAX_DEFINES
@@ -15,7 +15,7 @@ returns-then-len-ge-MAX_DEFINES c =
     let s = c.args.self.now in
     let z = c.give_back.new.self in
     let told = c.give_back.ensures in
-    let full : 512 ≤ length (held s).table = omega (arith, entries_len (vec_items s.kept) (vec_items s.table), s.table.ok.0, c.len.ensures) in
+    let full : 512 ≤ length (held s).table = omega (arith, table_len s, c.len.ensures) in
     let end : s.mark ≡ vec_len z.kept = omega (arith, ap length told.kept, length-take s.mark (vec_items s.kept), z.kept.ok.0, s.kept.ok.0, s.ordered, s.inside) in
     record {
       value = sym (le-ltb _ 512 full);
@@ -37,7 +37,7 @@ enter-requires c =
     let same = ap (λ d. length d.table) c.undefine.ensures.defs in
     record {
       free = c.undefine.ensures.gone;
-      room = omega (arith, same, without_len (held s) c.args.name, entries_len (vec_items s.kept) (vec_items s.table), entries_len (vec_items u.kept) (vec_items u.table), s.table.ok.0, u.table.ok.0, c.len.ensures);
+      room = omega (arith, same, without_len (held s) c.args.name, table_len s, table_len u, c.len.ensures);
     }
 
 pub returns : goal.returns
@@ -51,7 +51,7 @@ returns c =
     let took = c.undefine.ensures in
     let put = c.enter.ensures in
     let e = made name kind (parameters s) (replacement s) in
-    let room : length (held s).table < 512 = omega (arith, entries_len (vec_items s.kept) (vec_items s.table), s.table.ok.0, c.len.ensures) in
+    let room : length (held s).table < 512 = omega (arith, table_len s, c.len.ensures) in
     let read : made name kind (parameters u) (replacement u) ≡ e =
     ap (λ m. made name kind (take (u.body - m) (drop m (vec_items u.kept))) (replacement u)) took.mark
     ∙ ap (λ b. made name kind (take (b - s.mark) (drop s.mark (vec_items u.kept))) (drop b (vec_items u.kept))) took.body

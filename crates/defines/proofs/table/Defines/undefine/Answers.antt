@@ -6,7 +6,7 @@ use Rattle.defines.specs.Changes.{cleared, without}
 use Rattle.defines.specs.Parts.{entries, shelf, vacant, Within, Once}
 use Rattle.defines.specs.Held.{held}
 use Rattle.defines.specs.Entries.{entries_len}
-use Rattle.defines.specs.Sounds.{held_sound}
+use Rattle.defines.specs.Sounds.{held_sound, table_len}
 use Rattle.defines.proofs.Removals.{grown_is, grown_without, none_without}
 use Rattle.defines.proofs.Rows.{dulled, dulled_entries, dulled_within, dulled_once}
 use Rattle.defines.proofs.table.Defines.undefine.Goals as goal
@@ -16,7 +16,7 @@ unfolding held
 index_mut-requires c =
     let s = c.args.self.now in
     let f = found (held s) c.args.name c.in-Some.handle (sym c.find.ensures.value ∙ c.in-Some.is) in
-    omega (arith, f.0, entries_len (vec_items s.kept) (vec_items s.table), s.table.ok.0)
+    omega (arith, f.0, table_len s)
 
 pub invariant_of-self : goal.invariant_of-self
 unfolding held
