@@ -9,6 +9,6 @@ pub struct IfParser {
     pub carry: Option<Token>,
     // the directive's word
     pub location: Location,
-    // whether a name that is no macro stands for 0
+    // whether a name that is no macro stands for 0: a flag, as pp-rs has it
     pub parsing_if: bool,
 }

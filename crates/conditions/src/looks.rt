@@ -114,7 +114,7 @@ impl<'a, F: Feed> Evaluator<'a, F> {
         expander.start_define_invocation(x, name)
     }
 
-    // The next token, where names of macros are started.
+    // The next token, where names of macros are started; each exit of a start means something else here.
     pub fn next(&mut self) -> Result<Option<Token>, Fault>
         requires { Ready F.Book.defs self.old }
         ensures looked { Looked F.Book.defs self.old self.new }

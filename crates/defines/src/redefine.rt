@@ -17,6 +17,7 @@ pub fn same_value(a: TokenValue, b: TokenValue) -> bool
     }
 }
 
+// By `same_value`, for the reason above.
 pub fn same_tokens(a: &[Token], b: &[Token]) -> bool
     ensures { result ≡ token_lists_agree a.now b.now }
 {

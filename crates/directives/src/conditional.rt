@@ -43,7 +43,7 @@ fn expect_end<F: Feed>(evaluator: &mut Evaluator<'_, F>) -> Result<(), Fault>
 }
 
 impl<S: Source> DirectiveProcessor<S> {
-    // Whether the gathered line holds; nothing may be left over.
+    // Whether the gathered line holds; nothing may be left over. Its evaluator is made here and in `evaluate_line`: their loans differ.
     fn evaluate_if_expression(
         &mut self,
         location: Location,
@@ -150,6 +150,7 @@ impl<S: Source> DirectiveProcessor<S> {
         Ok(())
     }
 
+    // pp-rs has the three directives; each says its clauses itself, as it is public.
     pub fn parse_if_directive(&mut self, location: Location, meter: &mut Meter) -> Step<()>
         ensures defs { held self.new.defines ≡ held self.old.defines }
         ensures stores { Spends (tank meter.old) (tank meter.new) }

@@ -15,7 +15,7 @@ use tokens::words::{
     DEFINE, ELIF, ELSE, ENDIF, ERROR, EXTENSION, IF, IFDEF, IFNDEF, LINE, PRAGMA, UNDEF, VERSION,
 };
 
-// A fault within `#if`, `#elif` and `#line` carries the word's place too.
+// A fault within `#if`, `#elif` and `#line` carries the word's place too. The word goes by its number, as names do: a form of the project.
 fn within(step: Step<Token>, word: u32, location: Location) -> Step<Token> {
     match (step, word) {
         (Err(StepExit::Error(f)), IF | ELIF | LINE) => Err(StepExit::Error(Fault {

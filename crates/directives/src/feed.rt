@@ -88,7 +88,7 @@ impl<S: Source> Book for DirectiveProcessor<S> {
 }
 
 impl<S: Source> Feed for DirectiveProcessor<S> {
-    // The source may not end with a block open.
+    // The source may not end with a block open. A match, as its arms do different things.
     fn step(&mut self, meter: &mut Meter) -> Step<Token> {
         match self.step_text(meter) {
             Err(StepExit::Finished) => match self.blocks.close() {

@@ -1,4 +1,5 @@
 -- A processor only adds to the stores: what it found there is a front of what it leaves.
+-- A walk of its own through the cases of meeting: one for both facts would carry two premises and give two answers at every case.
 use Rattle.std.proofs.Common.{◌≡◌, ℕ, ◌+◌, ◌-◌, ◌<◌, ◌≤◌, eqb, ltb, [], ◌∷◌, ◌++◌, length, get_or, take, drop, Some, None, Ok, Err, Option, sym, refl, ap, ◌∙◌, subst, arith}
 use Rattle.std.proofs.lemmas.Bool.{cond_both}
 use borrow.Author.Tests.{eqb-false}

@@ -1,4 +1,5 @@
 -- What a phase makes of a step keeps the invariant.
+-- A walk of its own through the cases of meeting: one for both facts would carry two premises and give two answers at every case.
 use Rattle.std.proofs.Common.{◌≡◌, ℕ, ◌+◌, ◌-◌, ◌<◌, false, eqb, ltb, length, take, Some, None, Ok, Err, Option, refl, inl, arith}
 use Rattle.std.proofs.lemmas.Bool.{cond_both}
 use borrow.Author.Tests.{eqb-false}

@@ -2,6 +2,7 @@
 use crate::processor::MacroProcessor;
 use stores::meter::Meter;
 
+// `Ready` is asked by each method: a ghost field must be a proposition.
 #[derive(Drop)]
 pub struct Expander<'a, F> {
     pub processor: &'a mut MacroProcessor,

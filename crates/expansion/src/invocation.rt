@@ -22,7 +22,7 @@ pub struct Callee {
     pub location: Location,
 }
 
-// A call whose arguments are gathered or expanded: `count` of them are whole (33 stands for more than 32), the next begins at `from`.
+// A call whose arguments are gathered or expanded: `count` of them are whole (33 stands for more than 32, so that a call stays a few words), the next begins at `from`.
 #[derive(Clone, Copy)]
 pub struct Call {
     pub callee: Callee,

@@ -30,6 +30,7 @@ impl DefineInvocation {
         ensures value { result ≡ (on_word argument x self.old).0 }
         ensures after { self.new ≡ (on_word argument x self.old).1 }
     {
+        // by its place, as the body lies in the book
         self.at += 1;
         if argument.is_none() {
             return Ok(x);

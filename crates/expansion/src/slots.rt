@@ -14,6 +14,7 @@ impl MacroProcessor {
         MAX_INVOCATIONS + self.below.len()
     }
 
+    // Tested here and in `set_argument`: the test keeps the product in range.
     pub fn argument(&self, slot: usize, i: usize) -> Span
         ensures { result ≡ arg_at self.now.arguments.items slot i }
     {

@@ -53,7 +53,7 @@ impl<S: Source> Preprocessor<S> {
         expander.step()
     }
 
-    // The next token, or none at the end. A fault, once answered, is answered again.
+    // The next token, or none at the end. A fault, once answered, is answered again (two lines here and below: no function of its own).
     pub fn next(&mut self) -> Result<Option<Token>, Fault>
         ensures pays { OnOk result ((spent_of self.old).moves < (spent_of self.new).moves) }
         ensures budget { (spent_of self.new).budget ≡ (spent_of self.old).budget }

@@ -60,7 +60,7 @@ pub fn pop<T>(items: &mut Vec<T>) -> Option<T>
     items.pop()
 }
 
-// The last record, left where it is.
+// The last record, left where it is. Thin over the library's, as `pop` is.
 pub fn top<T>(items: &[T]) -> Option<&T>
     ensures { option_map (λ x. x.now) result ≡ latest items.now }
 {

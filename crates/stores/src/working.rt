@@ -71,7 +71,7 @@ impl Meter {
         push(&mut self.working, room, x).map_err(|_| PreprocessorError::WorkingTokensFull)
     }
 
-    // A token that a level puts out, unless the store is full.
+    // A token that a level puts out, unless the store is full. A function for each store: each is a line over the one push.
     pub fn build(&mut self, x: Token) -> Result<(), PreprocessorError>
         ensures test { is_ok result ≡ roomy (tank self.old) }
         ensures after { tank self.new ≡ (if roomy (tank self.old) then built (tank self.old) x else tank self.old) }

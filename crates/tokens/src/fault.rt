@@ -125,6 +125,7 @@ impl PreprocessorError {
     }
 }
 
+// The numbers follow the order of the variants.
 impl Layer {
     pub fn number(self) -> u32
         ensures { result ≡ layered self }

@@ -13,6 +13,7 @@ fn is_nan(bits: u32) -> bool
     bits % 0x8000_0000 > 0x7f80_0000
 }
 
+// By the values: two zeros are equal, and no NaN equals anything.
 fn same_value(a: u32, b: u32) -> bool
     ensures { result ≡ value_equal a b }
 {

@@ -123,7 +123,7 @@ const PUNCTS: [Punct; 45] = [
     Punct::Question,
 ];
 
-// The punctuation at a place of the list.
+// The punctuation at a place of the list; `get` was tried, and its goal stayed open.
 impl TryFrom<u8> for Punct {
     type Error = UnknownPunct;
 
@@ -139,6 +139,7 @@ impl TryFrom<u8> for Punct {
 }
 
 impl Punct {
+    // The table itself; `Display` writes it.
     pub fn spelling(self) -> &'static str
         ensures { result.now ≡ spelled self }
     {

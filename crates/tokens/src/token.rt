@@ -93,7 +93,7 @@ impl fmt::Display for Float {
     }
 }
 
-// A passed directive is its word and how many tokens it has.
+// A passed directive is its word and how many tokens it has; a type each, as pp-rs has.
 impl fmt::Display for Version {
     ghost output = { λ v. Some (version_text v) };
 

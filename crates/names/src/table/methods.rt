@@ -17,6 +17,7 @@ const ALL_NAMES: usize = 1024;
 
 const ALL_BYTES: usize = 16384;
 
+// In the order of `tokens::words`; fixed words as byte strings are a form of the project.
 const FIXED: [&[u8]; 15] = [
     b"error",
     b"line",

@@ -4,6 +4,7 @@ ghost use Rattle.sources.specs.Bytes.{raw_of};
 
 #[derive(Clone, Copy)]
 pub struct Raw {
+    // kind and marks are numbers that are read in one place
     pub kind: u8,
     pub marks: u8,
     pub width: u16,
