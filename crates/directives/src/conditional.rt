@@ -254,7 +254,7 @@ impl<S: Source> DirectiveProcessor<S> {
         }
     }
 
-    // The expressions of a gathered `#line`.
+    // The expressions of a gathered `#line`. Its evaluator is made as in `evaluate_if_expression`.
     fn evaluate_line(
         &mut self,
         location: Location,

@@ -39,7 +39,7 @@ impl<S: Source> DirectiveProcessor<S> {
         self.reader.expect_newline(name_location)
     }
 
-    // A host's definition takes the place of a former one; refused, it leaves all as it was.
+    // A host's definition takes the place of a former one; refused, it leaves all as it was. What was read is given back here too.
     pub fn add_define(&mut self, name: u32, tokens: &[LexerToken]) -> Result<(), Fault>
         ensures handles { Grown (held self.old.defines) (held self.new.defines) }
         ensures names { Kept (held self.old.defines) (held self.new.defines) }

@@ -9,7 +9,7 @@ use tokens::location::Location;
 use tokens::token::{Extension, Part, Pragma, Token, TokenValue, Version};
 
 impl<S: Source> DirectiveProcessor<S> {
-    // The rest of the line is kept; broken off, it is given back.
+    // The rest of the line is kept; broken off, it is given back, as a definition is: one function for them would be no shorter.
     fn keep_line(&mut self) -> Step<Part>
         ensures defs { held self.new.defines ≡ held self.old.defines }
         ensures segments { self.new.blocks ≡ self.old.blocks }

@@ -346,7 +346,7 @@ impl MacroProcessor {
         self.pass(callee.token(), meter)
     }
 
-    // One match on what the processor is doing and what it meets.
+    // One match on what the processor is doing and what it meets: a form of the project.
     #[tactic(auto, using(crate::proofs::Places::room_placed))]
     pub fn meet<B: Book>(
         &mut self,

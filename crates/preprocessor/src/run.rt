@@ -65,6 +65,7 @@ impl<S: Source> Preprocessor<S> {
             return Err(fault);
         }
         loop {
+            // a match, as its arms do different things
             match self.step() {
                 Ok(token) => return Ok(Some(token)),
                 Err(StepExit::Finished) => return Ok(None),
@@ -77,7 +78,7 @@ impl<S: Source> Preprocessor<S> {
         }
     }
 
-    // A definition that the host makes; refused, it leaves the run as it was.
+    // A definition that the host makes; refused, it leaves the run as it was. An answered fault is answered again, as by `next`.
     pub fn add_define(&mut self, name: u32, tokens: &[LexerToken]) -> Result<(), Fault>
         ensures repeats { Repeats self.old.fault result }
         ensures refused { OnErr result (Refused self.old self.new) }
