@@ -109,7 +109,7 @@ Settled (Ok (Some x)) = defines (ident_of x)
 Settled (Ok None) = Unit {0}
 Settled (Err f) = Unit {0}
 
-abbrev pub OfLevel : Level → Result (Option Punct) Fault → Type 0
-OfLevel k (Ok (Some p)) = operator_level p ≡ Some k
+abbrev pub OfLevel : Option Level → Result (Option Punct) Fault → Type 0
+OfLevel k (Ok (Some p)) = operator_level p ≡ k
 OfLevel k (Ok None) = Unit {0}
 OfLevel k (Err f) = Unit {0}

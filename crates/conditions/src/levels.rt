@@ -81,7 +81,7 @@ impl<'a, F: Feed> Evaluator<'a, F> {
         ensures took { Took result (remains self.old) (remains self.new) }
     {
         let mut left = self.unary(depth)?;
-        while let Some(op) = self.take_op(Level::Multiplicative)? {
+        while let Some(op) = self.take_op(Some(Level::Multiplicative))? {
             let right = self.unary(depth)?;
             left = self.parser.apply(op, left, right)?;
         }
@@ -95,7 +95,7 @@ impl<'a, F: Feed> Evaluator<'a, F> {
         ensures took { Took result (remains self.old) (remains self.new) }
     {
         let mut left = self.multiplicative(depth)?;
-        while let Some(op) = self.take_op(Level::Additive)? {
+        while let Some(op) = self.take_op(Some(Level::Additive))? {
             let right = self.multiplicative(depth)?;
             left = self.parser.apply(op, left, right)?;
         }
@@ -109,7 +109,7 @@ impl<'a, F: Feed> Evaluator<'a, F> {
         ensures took { Took result (remains self.old) (remains self.new) }
     {
         let mut left = self.additive(depth)?;
-        while let Some(op) = self.take_op(Level::Shift)? {
+        while let Some(op) = self.take_op(Some(Level::Shift))? {
             let right = self.additive(depth)?;
             left = self.parser.apply(op, left, right)?;
         }
@@ -123,7 +123,7 @@ impl<'a, F: Feed> Evaluator<'a, F> {
         ensures took { Took result (remains self.old) (remains self.new) }
     {
         let mut left = self.shift(depth)?;
-        while let Some(op) = self.take_op(Level::Comparative)? {
+        while let Some(op) = self.take_op(Some(Level::Comparative))? {
             let right = self.shift(depth)?;
             left = self.parser.apply(op, left, right)?;
         }
@@ -137,7 +137,7 @@ impl<'a, F: Feed> Evaluator<'a, F> {
         ensures took { Took result (remains self.old) (remains self.new) }
     {
         let mut left = self.comparative(depth)?;
-        while let Some(op) = self.take_op(Level::Equality)? {
+        while let Some(op) = self.take_op(Some(Level::Equality))? {
             let right = self.comparative(depth)?;
             left = self.parser.apply(op, left, right)?;
         }
@@ -151,7 +151,7 @@ impl<'a, F: Feed> Evaluator<'a, F> {
         ensures took { Took result (remains self.old) (remains self.new) }
     {
         let mut left = self.equality(depth)?;
-        while let Some(op) = self.take_op(Level::BitAnd)? {
+        while let Some(op) = self.take_op(Some(Level::BitAnd))? {
             let right = self.equality(depth)?;
             left = self.parser.apply(op, left, right)?;
         }
@@ -165,7 +165,7 @@ impl<'a, F: Feed> Evaluator<'a, F> {
         ensures took { Took result (remains self.old) (remains self.new) }
     {
         let mut left = self.bit_and(depth)?;
-        while let Some(op) = self.take_op(Level::BitXor)? {
+        while let Some(op) = self.take_op(Some(Level::BitXor))? {
             let right = self.bit_and(depth)?;
             left = self.parser.apply(op, left, right)?;
         }
@@ -179,7 +179,7 @@ impl<'a, F: Feed> Evaluator<'a, F> {
         ensures took { Took result (remains self.old) (remains self.new) }
     {
         let mut left = self.bit_xor(depth)?;
-        while let Some(op) = self.take_op(Level::BitOr)? {
+        while let Some(op) = self.take_op(Some(Level::BitOr))? {
             let right = self.bit_xor(depth)?;
             left = self.parser.apply(op, left, right)?;
         }
@@ -193,7 +193,7 @@ impl<'a, F: Feed> Evaluator<'a, F> {
         ensures took { Took result (remains self.old) (remains self.new) }
     {
         let mut left = self.bit_or(depth)?;
-        while let Some(op) = self.take_op(Level::LogicalAnd)? {
+        while let Some(op) = self.take_op(Some(Level::LogicalAnd))? {
             let right = self.bit_or(depth)?;
             left = self.parser.apply(op, left, right)?;
         }
@@ -207,7 +207,7 @@ impl<'a, F: Feed> Evaluator<'a, F> {
         ensures took { Took result (remains self.old) (remains self.new) }
     {
         let mut left = self.logical_and(depth)?;
-        while let Some(op) = self.take_op(Level::LogicalOr)? {
+        while let Some(op) = self.take_op(Some(Level::LogicalOr))? {
             let right = self.logical_and(depth)?;
             left = self.parser.apply(op, left, right)?;
         }

@@ -186,8 +186,8 @@ impl<'a, F: Feed> Evaluator<'a, F> {
         self.peek()?.ok_or(self.parser.ended())
     }
 
-    // The operator of the level that comes next is taken, if one does.
-    pub fn take_op(&mut self, level: Level) -> Result<Option<Punct>, Fault>
+    // The operator of the level that comes next is taken, if one does; of no level is what is no operator.
+    pub fn take_op(&mut self, level: Option<Level>) -> Result<Option<Punct>, Fault>
         requires { Ready F.Book.defs self.old }
         ensures looked { Looked F.Book.defs self.old self.new }
         ensures found { Found result (remains self.old) (remains self.new) }
@@ -197,7 +197,7 @@ impl<'a, F: Feed> Evaluator<'a, F> {
             return Ok(None);
         };
         match x.value {
-            TokenValue::Punct(op) if level_of(op) == Some(level) => {
+            TokenValue::Punct(op) if level_of(op) == level => {
                 self.take();
                 Ok(Some(op))
             }
