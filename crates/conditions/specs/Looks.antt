@@ -7,7 +7,7 @@
 -- Took r m n: where r is an answer, what was ahead has fallen from m to n; Found r m n: the same where r is a token
 -- Carried o r: a carried token is the answer; Spent r: only spent moves are raised; found_in r: what a look found; Holding r o: o is the answer
 -- Ended l r: only spent moves and the end of the line are raised; Tells d r: an answer says whether some name is in force in d
--- Named r, Settled r: the only name in r is `defined`; OfLevel k r: the operator in r is of level k
+-- Named r, Settled r: the only name in r is `defined`; OfLevel k r: the operator in r is of level k; OfNumber n r: of the level with this number
 use Rattle.std.specs.Prelude.{◌≡◌, ℕ, ◌+◌, ◌-◌, ◌<◌, ◌≤◌, Bool, true, false, ◌⊎◌, ℤ, is_some, Some, None, Ok, Err, Option, Result}
 use Rattle.tokens.specs.declared.location.Location.{Location}
 use Rattle.tokens.specs.declared.punct.Punct.{Punct}
@@ -27,7 +27,7 @@ use Rattle.expansion.specs.Sane.{Holds}
 use Rattle.conditions.specs.declared.if_parser.IfParser.{IfParser}
 use Rattle.conditions.specs.declared.evaluator.Evaluator.{Evaluator}
 use Rattle.operators.specs.declared.Level.{Level}
-use Rattle.operators.specs.Calc.{operator_level, flag}
+use Rattle.operators.specs.Calc.{operator_level, place, flag}
 
 abbrev pub located : Location → Result ℤ PreprocessorError → Result ℤ Fault
 located l (Ok v) = Ok v
@@ -113,3 +113,8 @@ abbrev pub OfLevel : Option Level → Result (Option Punct) Fault → Type 0
 OfLevel k (Ok (Some p)) = operator_level p ≡ k
 OfLevel k (Ok None) = Unit {0}
 OfLevel k (Err f) = Unit {0}
+
+abbrev pub OfNumber : ℕ → Result (Option Punct) Fault → Type 0
+OfNumber n (Ok (Some p)) = place (operator_level p) ≡ n
+OfNumber n (Ok None) = Unit {0}
+OfNumber n (Err f) = Unit {0}

@@ -1,7 +1,7 @@
 // Looks: the next token with macros started, and the takings that must find one.
 ghost use Rattle.std.specs.Prelude.{◌≡◌, ◌<◌, is_some, None};
 ghost use Rattle.tokens.specs.Faults.{raised};
-ghost use Rattle.conditions.specs.Looks.{located, passing, taken, remains, Ready, Looked, Took, Found, Carried, Spent, Ended, Tells, found_in, Holding, Named, Settled, OfLevel};
+ghost use Rattle.conditions.specs.Looks.{located, passing, taken, remains, Ready, Looked, Took, Found, Carried, Spent, Ended, Tells, found_in, Holding, Named, Settled, OfLevel, OfNumber};
 ghost use Rattle.books.specs.Book.{find};
 ghost use Rattle.operators.specs.Calc.{calc, signed, flag};
 
@@ -9,7 +9,7 @@ use crate::evaluator::Evaluator;
 use crate::if_parser::IfParser;
 use books::{Book, Feed};
 use expansion::expander::Expander;
-use operators::{Level, Sign, apply, apply_sign, level_of};
+use operators::{Level, Sign, apply, apply_sign, level_number, level_of};
 use tokens::fault::{Fault, Layer, PreprocessorError, Step, StepExit};
 use tokens::punct::Punct;
 use tokens::token::{Integer, Token, TokenValue};
@@ -198,6 +198,25 @@ impl<'a, F: Feed> Evaluator<'a, F> {
         };
         match x.value {
             TokenValue::Punct(op) if level_of(op) == level => {
+                self.take();
+                Ok(Some(op))
+            }
+            _ => Ok(None),
+        }
+    }
+
+    // The same by the number of the level: 0 is what is no operator, and nothing has a number past 10.
+    pub fn take_op_numbered(&mut self, number: u8) -> Result<Option<Punct>, Fault>
+        requires { Ready F.Book.defs self.old }
+        ensures looked { Looked F.Book.defs self.old self.new }
+        ensures found { Found result (remains self.old) (remains self.new) }
+        ensures level { OfNumber number result }
+    {
+        let Some(x) = self.peek()? else {
+            return Ok(None);
+        };
+        match x.value {
+            TokenValue::Punct(op) if level_number(op) == number => {
                 self.take();
                 Ok(Some(op))
             }

@@ -2,4 +2,4 @@
 #![tactic(auto)]
 
 pub mod list;
-mod spelling;
+pub mod spelling;

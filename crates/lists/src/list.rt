@@ -1,5 +1,5 @@
 // The listing of one token file, line by line.
-use crate::spelling::write_token;
+use crate::spelling::{fault_line, refusal_line, write_token};
 use names::table::Names;
 use preprocessor::state::Preprocessor;
 use sources::file::TokenFile;
@@ -25,10 +25,7 @@ fn list_run<S: Source, W: Write>(
         match run.next() {
             Ok(Some(token)) => write_token(names, token, &mut line)?,
             Ok(None) => return out.write_all(b"end\n"),
-            Err(fault) => {
-                writeln!(line, "{fault}")?;
-                return out.write_all(&line);
-            }
+            Err(fault) => return out.write_all(fault_line(heap, fault)?.as_bytes()),
         }
         out.write_all(&line)?;
     }
@@ -38,7 +35,7 @@ fn list_run<S: Source, W: Write>(
 fn list_refusal<W: Write>(heap: Global, refusal: Refusal, out: &mut W) -> io::Result<()> {
     match refusal {
         Refusal::Memory => Err(AllocError.into()),
-        _ => out.write_all(format!(in heap; "{refusal}\n")?.as_bytes()),
+        _ => out.write_all(refusal_line(heap, refusal)?.as_bytes()),
     }
 }
 

@@ -1,7 +1,12 @@
-// Tokens as lines of text.
+// Tokens, faults and refusals as lines of text.
+ghost use Rattle.std.specs.Prelude.{◌≡◌, ◌++◌, IfOk, codes, string_bytes};
+ghost use Rattle.tokens.specs.Faults.{fault_text, refusal_text};
+
 use names::table::Names;
+use std::alloc::{AllocError, Global};
 use std::io;
 use std::io::Write;
+use tokens::fault::{Fault, Refusal};
 use tokens::token::{Token, TokenValue};
 
 // A name as it is, any other value as it is displayed.
@@ -23,4 +28,24 @@ pub(crate) fn write_token<W: Write>(names: &Names, token: Token, out: &mut W) ->
     write!(out, "{line} ")?;
     write_value(names, token.value, out)?;
     out.write_all(b"\n")
+}
+
+// The line of a token by itself.
+pub fn token_line(heap: Global, names: &Names, token: Token) -> Result<Vec<u8>, AllocError> {
+    let mut line = Vec::new(heap);
+    // to a vector only want of memory can keep it from being written
+    write_token(names, token, &mut line).map_err(|_| AllocError)?;
+    Ok(line)
+}
+
+pub fn fault_line(heap: Global, fault: Fault) -> Result<String, AllocError>
+    ensures { IfOk result (λ s. string_bytes s ≡ fault_text fault ++ codes "\n") }
+{
+    format!(in heap; "{fault}\n")
+}
+
+pub fn refusal_line(heap: Global, refusal: Refusal) -> Result<String, AllocError>
+    ensures { IfOk result (λ s. string_bytes s ≡ refusal_text refusal ++ codes "\n") }
+{
+    format!(in heap; "{refusal}\n")
 }

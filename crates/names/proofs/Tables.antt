@@ -17,19 +17,19 @@ same_test a b e = (bytes_eq-Decides a b).1 e
 other_test : (a b : List ℕ) → (a ≡ b → ⊥) → bytes_eq a b ≡ false
 other_test a b n = search (rules, bytes_eq-Decides)
 
-seek_hit : (ns : List (List ℕ)) (i : ℕ) (b : List ℕ) → i < length ns → get_or ns i [] ≡ b → seek i (drop i ns) b ≡ Some i
+pub seek_hit : (ns : List (List ℕ)) (i : ℕ) (b : List ℕ) → i < length ns → get_or ns i [] ≡ b → seek i (drop i ns) b ≡ Some i
 seek_hit ns i b h e =
     let more : seek i (drop i ns) b ≡ cond (bytes_eq (get_or ns i []) b) (Some i) (seek (i + 1) (drop (i + 1) ns) b) = at_drop_more (λ l. seek i l b) ns i [] h in
     let hit = same_test _ _ e in
     more ∙ ap (λ t. cond t (Some i) (seek (i + 1) (drop (i + 1) ns) b)) hit
 
-seek_miss : (ns : List (List ℕ)) (i : ℕ) (b : List ℕ) → i < length ns → (get_or ns i [] ≡ b → ⊥) → seek i (drop i ns) b ≡ seek (i + 1) (drop (i + 1) ns) b
+pub seek_miss : (ns : List (List ℕ)) (i : ℕ) (b : List ℕ) → i < length ns → (get_or ns i [] ≡ b → ⊥) → seek i (drop i ns) b ≡ seek (i + 1) (drop (i + 1) ns) b
 seek_miss ns i b h e =
     let more : seek i (drop i ns) b ≡ cond (bytes_eq (get_or ns i []) b) (Some i) (seek (i + 1) (drop (i + 1) ns) b) = at_drop_more (λ l. seek i l b) ns i [] h in
     let miss = other_test _ _ e in
     more ∙ ap (λ t. cond t (Some i) (seek (i + 1) (drop (i + 1) ns) b)) miss
 
-seek_end : (ns : List (List ℕ)) (i : ℕ) (b : List ℕ) → length ns ≤ i → seek i (drop i ns) b ≡ None
+pub seek_end : (ns : List (List ℕ)) (i : ℕ) (b : List ℕ) → length ns ≤ i → seek i (drop i ns) b ≡ None
 seek_end ns i b h = at_drop_all (λ l. seek i l b) ns i h
 
 -- a search goes past the names that differ

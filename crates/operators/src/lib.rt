@@ -2,7 +2,7 @@
 #![tactic(auto)]
 
 ghost use Rattle.std.specs.Prelude.{◌≡◌};
-ghost use Rattle.operators.specs.Calc.{operator_level, calc, sign_in, signed};
+ghost use Rattle.operators.specs.Calc.{operator_level, place, calc, sign_in, signed};
 
 use tokens::fault::PreprocessorError;
 use tokens::punct::Punct;
@@ -17,9 +17,9 @@ pub enum Sign {
 }
 
 // The levels of the binary operators, the tightest first.
-#[derive(Clone, Copy, PartialEq, Eq)]
+#[derive(Clone, Copy, PartialEq, Eq, PartialOrd, Ord)]
 pub enum Level {
-    Multiplicative,
+    Multiplicative = 1,
     Additive,
     Shift,
     Comparative,
@@ -50,6 +50,16 @@ pub fn level_of(p: Punct) -> Option<Level>
         Punct::LogicalOr => Level::LogicalOr,
         _ => return None,
     })
+}
+
+// The number of an operator's level: from 1 for the tightest to 10 for the loosest, and 0 for what is no binary operator.
+pub fn level_number(p: Punct) -> u8
+    ensures { result ≡ place (operator_level p) }
+{
+    match level_of(p) {
+        Some(level) => level as u8,
+        None => 0,
+    }
 }
 
 // Both sides are worked out before, also of `&&` and `||`. A shift goes by 0 to 63 places. What is no binary operator answers its right side.

@@ -7,6 +7,7 @@ use crate::lines::put;
 use crate::reader::Reader;
 use books::Book;
 use defines::table::Defines;
+use defines::table::pending::MAX_PARAMETERS;
 use sources::source::Source;
 use tokens::fault::{Fault, Layer, PreprocessorError, Step};
 use tokens::lexer::{LexerToken, LexerTokenValue};
@@ -19,15 +20,20 @@ fn opens_parameters(token: LexerToken) -> bool {
     matches!(token.value, LexerTokenValue::Punct(Punct::LeftParen)) && !token.leading_whitespace
 }
 
-// One more parameter: at most 32, and each is a kept token.
+// One more parameter: at most 32, and each is a kept token. Only parameters count towards the 32, whatever else was kept before them.
 fn keep_parameter(defines: &mut Defines, name: u32, location: Location) -> Result<(), Fault>
     ensures { ReadOn defines.old defines.new }
 {
+    let error = if defines.pending_parameters() < MAX_PARAMETERS {
+        PreprocessorError::KeptTokensFull
+    } else {
+        PreprocessorError::TooManyParameters
+    };
     let kept = defines.keep_parameter(Token {
         value: TokenValue::Ident(name),
         location,
     });
-    kept.map_err(|error| Fault::new(error, location, Layer::Directives))
+    kept.map_err(|_| Fault::new(error, location, Layer::Directives))
 }
 
 impl<S: Source> Reader<S> {

@@ -16,13 +16,13 @@ module _ (k : ℕ) (xs : List (Option ℕ)) (i : ℕ) where
   more : i < length xs → place i k (drop i xs) ≡ cond (bears (get_or xs i None) k) (Some i) (place (i + 1) k (drop (i + 1) xs))
   more h = at_drop_more (place i k) xs i None h
 
-  hit : i < length xs → bears (get_or xs i None) k ≡ true → place i k (drop i xs) ≡ Some i
+  pub hit : i < length xs → bears (get_or xs i None) k ≡ true → place i k (drop i xs) ≡ Some i
   hit h e = more h ∙ ap (λ t. cond t (Some i) (place (i + 1) k (drop (i + 1) xs))) e
 
-  miss : i < length xs → bears (get_or xs i None) k ≡ false → place i k (drop i xs) ≡ place (i + 1) k (drop (i + 1) xs)
+  pub miss : i < length xs → bears (get_or xs i None) k ≡ false → place i k (drop i xs) ≡ place (i + 1) k (drop (i + 1) xs)
   miss h e = more h ∙ ap (λ t. cond t (Some i) (place (i + 1) k (drop (i + 1) xs))) e
 
-  over : length xs ≤ i → place i k (drop i xs) ≡ None
+  pub over : length xs ≤ i → place i k (drop i xs) ≡ None
   over h = at_drop_all (place i k) xs i h
 
 pub latest_last : {X : Type 0} (xs : List X) (d : X) → 0 < length xs → latest xs ≡ Some (get_or xs (length xs - 1) d)

@@ -32,3 +32,6 @@ pub given_back : (t u v : Tank) (m : Mark) → m ≡ marked t → Grows t u → 
 given_back t u v m e f g =
     let h : v ≡ cut u (length t.working) (length t.building) = g ∙ ap (λ k. cut u k.working k.building) e in
     subst (Spends t) (sym h) (record { moves = f.moves; budget = f.budget; working = f.working; building = f.building })
+
+pub spends_same : (t : Tank) → Spends t t
+spends_same t = record { moves = omega arith; budget = refl; working = refl; building = refl }

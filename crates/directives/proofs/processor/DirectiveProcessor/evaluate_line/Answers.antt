@@ -1,16 +1,16 @@
 use Rattle.std.proofs.Common.{rules}
 use Rattle.conditions.proofs.Looking.{then_looked}
-use Rattle.directives.proofs.Judging.{fresh_grows}
+use Rattle.directives.proofs.Judging.{fresh_looked}
 use Rattle.directives.proofs.processor.DirectiveProcessor.evaluate_line.Goals as goal
 
 pub returns-in_err-value-clause-stores : goal.returns-in_err-value-clause-stores
-returns-in_err-value-clause-stores g c = let h = fresh_grows c.begin.ensures.processor c.evaluate_expression.ensures.looked in search (rules, h)
+returns-in_err-value-clause-stores g c = let h = fresh_looked c.begin.ensures.processor c.evaluate_expression.ensures.looked in search (rules, h)
 
 pub returns-in_default-clause-stores : goal.returns-in_default-clause-stores
-returns-in_default-clause-stores g c = let h = fresh_grows c.begin.ensures.processor c.evaluate_expression.ensures.looked in search (rules, h)
+returns-in_default-clause-stores g c = let h = fresh_looked c.begin.ensures.processor c.evaluate_expression.ensures.looked in search (rules, h)
 
 pub returns-in_err-pass_second_expression-clause-stores : goal.returns-in_err-pass_second_expression-clause-stores
-returns-in_err-pass_second_expression-clause-stores g c = let h = fresh_grows c.begin.ensures.processor (then_looked {t = c.evaluate_expression.new.self} c.evaluate_expression.ensures.looked c.pass_second_expression.ensures) in search (rules, h)
+returns-in_err-pass_second_expression-clause-stores g c = let h = fresh_looked c.begin.ensures.processor (then_looked {t = c.evaluate_expression.new.self} c.evaluate_expression.ensures.looked c.pass_second_expression.ensures) in search (rules, h)
 
 pub returns-clause-stores : goal.returns-clause-stores
-returns-clause-stores g c = let h = fresh_grows c.begin.ensures.processor (then_looked {t = c.pass_second_expression.new.evaluator} (then_looked {t = c.evaluate_expression.new.self} c.evaluate_expression.ensures.looked c.pass_second_expression.ensures) c.expect_end.ensures) in search (rules, h)
+returns-clause-stores g c = let h = fresh_looked c.begin.ensures.processor (then_looked {t = c.pass_second_expression.new.evaluator} (then_looked {t = c.evaluate_expression.new.self} c.evaluate_expression.ensures.looked c.pass_second_expression.ensures) c.expect_end.ensures) in search (rules, h)
