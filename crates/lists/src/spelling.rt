@@ -49,3 +49,45 @@ pub fn refusal_line(heap: Global, refusal: Refusal) -> Result<String, AllocError
 {
     format!(in heap; "{refusal}\n")
 }
+
+#[cfg(test)]
+mod tests {
+    use super::*;
+    use tokens::fault::{Layer, PreprocessorError};
+    use tokens::location::Location;
+
+    // What no clause says: there is memory for each line, and a name is spelled by its bytes.
+    #[test]
+    fn lines(rt: HostRuntime) {
+        let heap = rt.alloc();
+        let location = Location {
+            start: 1,
+            end: 3,
+            line: 7,
+        };
+        let Ok(names) = Names::new(heap) else {
+            panic!(rt; "no memory");
+        };
+        let token = Token {
+            value: TokenValue::Ident(4),
+            location,
+        };
+        let Ok(line) = token_line(heap, &names, token) else {
+            panic!(rt; "no memory");
+        };
+        assert_eq!(rt; line.as_slice(), b"7 if\n".as_slice());
+        let fault = Fault::new(
+            PreprocessorError::DefineRedefined,
+            location,
+            Layer::Directives,
+        );
+        let Ok(line) = fault_line(heap, fault) else {
+            panic!(rt; "no memory");
+        };
+        assert_eq!(rt; line.as_str(), "fault 13 2 7\n");
+        let Ok(line) = refusal_line(heap, Refusal::BadFile) else {
+            panic!(rt; "no memory");
+        };
+        assert_eq!(rt; line.as_str(), "fault 41\n");
+    }
+}
