@@ -4,6 +4,7 @@
 -- carries o: how many tokens are carried; ahead o t: no more tokens than this can still be taken; remains s: the same of an evaluator
 -- Ready defs s: the invariant of the macros in expansion holds of the parser, under the book of the feed
 -- Looked defs s t: from s to t: what Moved says, the directive's word and kind stay, `remains` does not grow, and the same loans are held
+-- Passed d p t e q u: the same of a parser, a book and a tank, but for the loans
 -- Took r m n: where r is an answer, what was ahead has fallen from m to n; Found r m n: the same where r is a token
 -- Carried o r: a carried token is the answer; Spent r: only spent moves are raised; found_in r: what a look found; Holding r o: o is the answer
 -- Ended l r: only spent moves and the end of the line are raised; Tells d r: an answer says whether some name is in force in d
@@ -62,6 +63,12 @@ pub record Looked {F : Type 0} (defs : F → Defs) (s t : Evaluator F) : Type 0 
   pub parser : t.parser.ghost_name ≡ s.parser.ghost_name
   pub lexer : t.lexer.ghost_name ≡ s.lexer.ghost_name
   pub meter : t.meter.ghost_name ≡ s.meter.ghost_name
+
+pub record Passed (d : Defs) (p : IfParser) (t : Tank) (e : Defs) (q : IfParser) (u : Tank) : Type 0 where
+  pub moved : Moved d (view p.processor) t e (view q.processor) u
+  pub location : q.location ≡ p.location
+  pub zeros : q.parsing_if ≡ p.parsing_if
+  pub less : ahead q.carry u ≤ ahead p.carry t
 
 abbrev pub Took : {X : Type 0} → Result X Fault → ℕ → ℕ → Type 0
 Took (Ok x) m n = n < m

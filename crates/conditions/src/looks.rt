@@ -1,7 +1,10 @@
 // Looks: the next token with macros started, and the takings that must find one.
 ghost use Rattle.std.specs.Prelude.{◌≡◌, ◌<◌, is_some, None};
 ghost use Rattle.tokens.specs.Faults.{raised};
-ghost use Rattle.conditions.specs.Looks.{located, passing, taken, remains, Ready, Looked, Took, Found, Carried, Spent, Ended, Tells, found_in, Holding, Named, Settled, OfLevel, OfNumber};
+ghost use Rattle.stores.specs.Tank.{tank};
+ghost use Rattle.expansion.specs.Processor.{view};
+ghost use Rattle.expansion.specs.Sane.{Holds};
+ghost use Rattle.conditions.specs.Looks.{located, passing, taken, ahead, remains, Ready, Looked, Passed, Took, Found, Carried, Spent, Ended, Tells, found_in, Holding, Named, Settled, OfLevel, OfNumber};
 ghost use Rattle.books.specs.Book.{find};
 ghost use Rattle.operators.specs.Calc.{calc, signed, flag};
 
@@ -10,6 +13,7 @@ use crate::if_parser::IfParser;
 use books::{Book, Feed};
 use expansion::expander::Expander;
 use operators::{Level, Sign, apply, apply_sign, level_number, level_of};
+use stores::meter::Meter;
 use tokens::fault::{Fault, Layer, PreprocessorError, Step, StepExit};
 use tokens::punct::Punct;
 use tokens::token::{Integer, Token, TokenValue};
@@ -72,6 +76,37 @@ impl IfParser {
         ensures { result ≡ located self.now.location (signed sign v) }
     {
         apply_sign(sign, v).map_err(|error| self.at_word(error))
+    }
+}
+
+impl IfParser {
+    // The operator of a level that comes next is taken, if one does. The level goes by its number: 0 is what is no operator, and past 10 is nothing.
+    pub fn take_op<F: Feed>(
+        &mut self,
+        level: u8,
+        lexer: &mut F,
+        meter: &mut Meter,
+    ) -> Result<Option<Punct>, Fault>
+        requires { Holds (F.Book.defs lexer.old) (view self.old.processor) }
+        ensures looked { Passed (F.Book.defs lexer.old) self.old (tank meter.old) (F.Book.defs lexer.new) self.new (tank meter.new) }
+        ensures found { Found result (ahead self.old.carry (tank meter.old)) (ahead self.new.carry (tank meter.new)) }
+        ensures level { OfNumber level result }
+    {
+        let mut evaluator = Evaluator {
+            parser: self,
+            lexer,
+            meter,
+        };
+        let Some(x) = evaluator.peek()? else {
+            return Ok(None);
+        };
+        match x.value {
+            TokenValue::Punct(op) if level_number(op) == level => {
+                evaluator.take();
+                Ok(Some(op))
+            }
+            _ => Ok(None),
+        }
     }
 }
 
@@ -198,25 +233,6 @@ impl<'a, F: Feed> Evaluator<'a, F> {
         };
         match x.value {
             TokenValue::Punct(op) if level_of(op) == level => {
-                self.take();
-                Ok(Some(op))
-            }
-            _ => Ok(None),
-        }
-    }
-
-    // The same by the number of the level: 0 is what is no operator, and nothing has a number past 10.
-    pub fn take_op_numbered(&mut self, number: u8) -> Result<Option<Punct>, Fault>
-        requires { Ready F.Book.defs self.old }
-        ensures looked { Looked F.Book.defs self.old self.new }
-        ensures found { Found result (remains self.old) (remains self.new) }
-        ensures level { OfNumber number result }
-    {
-        let Some(x) = self.peek()? else {
-            return Ok(None);
-        };
-        match x.value {
-            TokenValue::Punct(op) if level_number(op) == number => {
                 self.take();
                 Ok(Some(op))
             }
